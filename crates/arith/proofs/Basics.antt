@@ -71,14 +71,6 @@ bind-assoc (refusal k) f g = refl
 pub bind-cong : {A B : Type 0} {m n : Outcome A} {f g : A → Outcome B} → m ≡ n → ((a : A) → f a ≡ g a) → (m >>= f) ≡ (n >>= g)
 bind-cong e h = ap₂ _>>=_ e (fun-ext h)
 
-pub or-true : (a : Bool) → (a || true) ≡ true
-or-true true = refl
-or-true false = refl
-
-pub or-false : (a : Bool) → (a || false) ≡ a
-or-false true = refl
-or-false false = refl
-
 pub or-second : (a b : Bool) → a ≡ false → (a || b) ≡ true → b ≡ true
 or-second true b e h = absurd (true≢false e)
 or-second false b e h = h

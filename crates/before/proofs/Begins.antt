@@ -1,20 +1,21 @@
 -- The tests before the code of any image, and what the run of its code then has. Assumes nothing.
 use Prim.Native.Nat.{ℕ, _^_, _≤_, _<_}
 use native.Mathlib.Omega.{arith}
-use mathlib.Core.Path.{_≡_, sym, _∙_}
+use mathlib.Core.Path.{_≡_, sym, _∙_, refl}
 use mathlib.Core.List.{List}
 use lib.IntN.{ℤ}
 use lib.ListN.{length, take}
 use borrow.Author.Tests.{eq-eqb, ne-eqb}
-use Rattle.limits.specs.Answer.{accepted, refused}
+use Rattle.limits.specs.Answer.{accepted, refused, Answer}
 use Rattle.semantics.specs.Formula.{State}
 use Rattle.semantics.specs.Shape.{stateLength}
 use Rattle.bytecode.specs.Check.{checkOf}
 use Rattle.bytecode.specs.Parts.{headerOf, shapeIn}
+use Rattle.bytecode.proofs.Walk.{refused≢accepted}
 use Rattle.shapes.specs.declared.Measured.{Measured}
 use Rattle.before.specs.declared.Before.{Before}
 use Rattle.before.specs.declared.Before.the-variants as T
-use Rattle.before.specs.Before.{beforeCode}
+use Rattle.before.specs.Before.{beforeCode, mayScan}
 use Rattle.before.specs.Inner.Known.{KnownShape, testedRow, PreparedBy, BegunBy}
 
 module _ (image : List ℕ) (s : State) (row : List ℤ) where
@@ -31,6 +32,15 @@ module _ (image : List ℕ) (s : State) (row : List ℤ) where
     pub before-rest : length s ≡ stateLength (shapeIn image) → testedRow (shapeIn image) s row ≡ beforeCode image s row
     unfolding beforeCode
     before-rest h = rw (sound, eq-eqb (length s) (stateLength (shapeIn image)) h)
+
+-- an image that passes the tests is sound
+pub tests-sound : (image : List ℕ) (s : State) (row : List ℤ) → accepted tt ≡ beforeCode image s row → checkOf image ≡ accepted tt
+unfolding beforeCode
+tests-sound image s row e = go (checkOf image) refl (sym e)
+  where
+    go : (a : Answer (Unit {0})) → checkOf image ≡ a → mayScan a (shapeIn image) s row ≡ accepted tt → checkOf image ≡ accepted tt
+    go (accepted tt) h q = h
+    go (refused n p) h q = refused≢accepted tt n p q
 
 -- what a start keeps, by the answer: the parts of the lent memory that were used, and the rest as it was
 pub begun-by : (image : List ℕ) (s : State) (row low high work part : List ℤ) (m : Measured) → length s ≡ m .size → length s ≡ stateLength (shapeIn image) → length s ≤ 127

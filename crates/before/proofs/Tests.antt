@@ -4,7 +4,7 @@ use native.Mathlib.Omega.{arith}
 use mathlib.Core.Path.{_≡_, refl, sym, ap, _∙_}
 use mathlib.Core.Bool.{Bool, true, false, _&&_}
 use mathlib.Core.List.{List}
-use lib.IntN.{ℤ, pos, negsuc}
+use lib.IntN.{ℤ, pos}
 use lib.ListN.{length, take, List·getD-eq-default}
 use lib.Seq.{take-all, length-take-le}
 use lib.Signed.{nonNeg}
@@ -18,6 +18,7 @@ use Rattle.bytecode.proofs.Walk.{refused≢accepted}
 use Rattle.shapes.specs.declared.Measured.{Measured}
 use Rattle.machine.specs.declared.Timing.{Timing}
 use Rattle.machine.proofs.Changes.{names-length}
+use Rattle.machine.proofs.Timers.{millis-count}
 use Rattle.before.specs.declared.Before.{Before}
 use Rattle.before.specs.declared.Before.the-variants as T
 use Rattle.before.specs.Before.{testedBefore}
@@ -34,10 +35,6 @@ then-tested : (a b d : Bool) → testedBefore a 18 (testedBefore b 13 (accepted 
 then-tested true true d e = refl
 then-tested true false d e = refused≢accepted tt 13 0 e
 then-tested false b d e = refused≢accepted tt 18 0 e
-
-counted : (z : ℤ) → millisOf z ≡ count z
-counted (pos n) = refl
-counted (negsuc n) = refl
 
 module _ {k : Shape} {m : Measured} {low high : List ℤ} (x : KnownShape k m low high) (s : State) (row : List ℤ) (sized : length low ≡ length s) where
   abbrev timingOf : ℕ → Timing
@@ -105,7 +102,7 @@ module _ {k : Shape} {m : Measured} {low high : List ℤ} (x : KnownShape k m lo
           names-are = rw (c .1);
           timers-are = rw (c .1);
           short = rw (c .1) (omega arith);
-          timed = rw (c .1) (record { flags = x .flags; time = rw (x .inputs-are) (counted (at row (m .inputs)) ∙ sym e) });
+          timed = rw (c .1) (record { flags = x .flags; time = rw (x .inputs-are) (millis-count (at row (m .inputs)) ∙ sym e) });
           copied = rw (x .inputs-are) (c .2);
         },
       )

@@ -7,7 +7,7 @@ use mathlib.Core.List.{List, [], _∷_, _++_}
 use mathlib.Core.Option.{Option, none, some}
 use lib.Dec.{T, eqb, leb, ltb, lt→ltb, ltb→lt, le→leb, eqb-refl}
 use lib.ListN.{length, getD, set, length-set}
-use borrow.Author.Tests.{eqb-true}
+use borrow.Author.Tests.{eqb-true, lt-ltb}
 use Rattle.limits.specs.Limits.{timeLimit}
 use Rattle.arith.specs.Values.{isInt32}
 use Rattle.arith.proofs.Basics.{T-true, true-T, and-T}
@@ -45,18 +45,15 @@ advances-append (i ∷ is) js c = go (advance i c) (λ c₁. advances-append is 
     go none ih = refl
     go (some c₁) ih = ih c₁
 
-ltb-is : (a b : ℕ) → a < b → ltb a b ≡ true
-ltb-is a b h = T-true (ltb a b) (lt→ltb a b h)
-
 eqb-self : (n : ℕ) → eqb n n ≡ true
 eqb-self n = T-true (eqb n n) (eqb-refl n)
 
 module _ (ids : List Bool) where
   adv-E : (e : Expression) (vs : List Sort) (g : Bool) (o : Option Picks) → UsableE ids e → depthE e + length vs ≤ 40
       → advances (codeE e) (known vs g o ids) ≡ some (known (Sort.number ∷ vs) g o ids)
-  adv-E (P.constant z) vs g o u d = rw (T-true (isInt32 z) u, ltb-is (length vs) 40 (omega arith))
-  adv-E (P.current i) vs g o u d = rw (u, ltb-is (length vs) 40 (omega arith))
-  adv-E (P.previous i) vs g o u d = rw (T-true (ltb i (length ids)) u, ltb-is (length vs) 40 (omega arith))
+  adv-E (P.constant z) vs g o u d = rw (T-true (isInt32 z) u, lt-ltb (length vs) 40 (omega arith))
+  adv-E (P.current i) vs g o u d = rw (u, lt-ltb (length vs) 40 (omega arith))
+  adv-E (P.previous i) vs g o u d = rw (T-true (ltb i (length ids)) u, lt-ltb (length vs) 40 (omega arith))
   adv-E (P.operation x a b) vs g o u d =
       let ha = adv-E a vs g o (u .0) (omega arith) in
       let hb = adv-E b (Sort.number ∷ vs) g o (u .1) (omega arith) in
@@ -89,7 +86,7 @@ module _ (ids : List Bool) where
     adv-case k o h uc ue dc de =
         let hc = adv-C (k .condition) [] o uc (omega arith) in
         let he = adv-E (k .value) [] true o ue (omega arith) in
-        simp (advances-append, hc, he, ltb-is v (length ids) declared, first, h)
+        simp (advances-append, hc, he, lt-ltb v (length ids) declared, first, h)
 
     adv-K : (side : Side) (ks : List Case) → Follows side (sides ks) → UsableK ids ks → ShallowK ks
         → (last : Side) × (advances (codeK v ks) (known [] false (some (picksOn side)) ids) ≡ some (known [] false (some (picksOn last)) ids)) × (mayEnd last ≡ true)
@@ -103,13 +100,13 @@ module _ (ids : List Bool) where
       → advances (codeR r) (known [] false none ids) ≡ some (known [] false none (set ids (target r) true))
   adv-R (function v e) sided u d l f =
       let he = adv-E e [] false none u (omega arith) in
-      simp (advances-append, he, ltb-is v (length ids) l, f)
+      simp (advances-append, he, lt-ltb v (length ids) l, f)
   adv-R (change v [] cs) sided u d l f = absurd (sided-walks [] sided)
   adv-R (change v (k ∷ ks) cs) sided u d l f =
       let w = sided-walks (sides (k ∷ ks)) sided in
       let h = adv-case v l f k none (T-true (mayBegin (k .side)) (w .0)) (u .0) (u .1) (d .1 .0) (d .1 .1) in
       let hs = adv-K v l f (k .side) ks (w .1) (u .2) (d .1 .2) in
-      rw (advances-append (codeCase v k ++ codeK v ks) (settle v ∷ []), advances-append (codeCase v k) (codeK v ks), h, hs .1, ltb-is v (length ids) l, f, eqb-self v, hs .2)
+      rw (advances-append (codeCase v k ++ codeK v ks) (settle v ∷ []), advances-append (codeCase v k) (codeK v ks), h, hs .1, lt-ltb v (length ids) l, f, eqb-self v, hs .2)
 
 adv-T : (v i n : ℕ) (ts : List Timer) → Numbered i n ts → (ids : List Bool) → length ids ≡ n → EachTimer (Unknown v ids) ts
     → advances (codeT v ts) (known [] false none ids) ≡ some (known [] false none (timersKnown v ts ids))
@@ -123,7 +120,7 @@ adv-T v i n (x ∷ xs) num ids l un = go (eqb (x .watched) v) (eqb-true (x .watc
     go true f ih =
         let c : x .id ≡ i = num .0 in
         let e : suc i + length xs ≡ n = numbered-length (suc i) n xs (num .1) in
-        rw (ltb-is (x .id) (length ids) (omega arith), un .0 (f refl)) (ih (set ids (x .id) true) (length-set ids (x .id) true ∙ l) (unknown-kept v i n xs ids (x .id) (num .1) c (un .1)))
+        rw (lt-ltb (x .id) (length ids) (omega arith), un .0 (f refl)) (ih (set ids (x .id) true) (length-set ids (x .id) true ∙ l) (unknown-kept v i n xs ids (x .id) (num .1) c (un .1)))
 
 -- the walk over the rules ends with every id known
 module _ (k : Setting) (n first : ℕ) (owner : ℕ → ℕ) (ts : List Timer) (numbered : Numbered first n ts) (places : EachTimer (Placed k n first owner) ts) where

@@ -67,18 +67,10 @@ pub above : (code : ℕ) → 16 ≤ code → (code ≡ 16 → ⊥) → (code ≡
     → 22 < code
 above code l a b c d e f g = past 22 code (past 21 code (past 20 code (past 19 code (past 18 code (past 17 code (past 16 code l a) b) c) d) e) f) g
 
--- none of the codes 1 to k
-abbrev pub Others : ℕ → ℕ → Type 0
-Others zero code = Unit {0}
-Others (suc k) code = Others k code × (code ≡ suc k → ⊥)
-
-others-above : (k code : ℕ) → 1 ≤ code → Others k code → k < code
-others-above zero code l h = l
-others-above (suc k) code l h = omega (arith, past (suc k) code (others-above k code l (h .0)) (h .1))
-
-pub none-other : (code n : ℕ) → Others 22 code → (code ≡ 24 → ⊥) → (code ≡ 25 → ⊥) → instructionOf code n ≡ none
-none-other zero n h up down = none-below zero n (omega arith)
-none-other (suc code) n h up down = none-above (suc code) n (others-above 22 (suc code) (omega arith) h) up down
+-- no operand behind the codes 4 to 19
+pub no-operand : (code : ℕ) → 4 ≤ code → code < 20 → hasOperand code ≡ false
+unfolding hasOperand
+no-operand code l h = rw (le-leb 1 code (omega arith), lt-leb code 3 (omega arith), lt-leb 20 code h, lt-leb 24 code (omega arith))
 
 -- ---- each code listed
 

@@ -24,6 +24,7 @@ use Rattle.bytecode.specs.Check.{item, Placed, checkRange, checkRanges, 
 use Rattle.bytecode.specs.Parts.{lows, highs, starts}
 use Rattle.bytecode.specs.Results.{HeaderStands}
 use Rattle.bytecode.proofs.Fetching.{number-within}
+use Rattle.bytecode.specs.Sound.{RangesAt}
 
 -- ---- a signed number
 
@@ -47,6 +48,11 @@ signed-within bytes at z next e = go (numberAt bytes at) refl e
         let a : unzigzag u ≡ z = cc in
         let b : to ≡ next = cc in
         record { int32 = subst (λ (y : ℤ). T (isInt32 y)) a (unzigzag-int32 u (w .operand)); behind = omega (arith, w .behind); inside = omega (arith, w .inside) }
+
+-- ranges end inside the bytes that they begin in
+pub ranges-inside : (bytes : List ℕ) (ns : List Range) (at end : ℕ) → RangesAt bytes at ns end → at ≤ length bytes → end ≤ length bytes
+ranges-inside bytes [] at end r h = omega arith
+ranges-inside bytes (n ∷ ns) at end r h = ranges-inside bytes ns (r .2) end (r .6) (signed-within bytes (r .1) (n .start) (r .2) (r .5) .inside)
 
 -- what a signed local holds
 pub signed-fits : (bytes : List ℕ) (at : ℕ) (z : ℤ) (next : ℕ) → signedAt bytes at ≡ got z next → SFits w32 z

@@ -1,27 +1,19 @@
 -- The limits of an image's timers: code without timers, and the shape of an image that has none. Document 02, A.7. Assumes nothing.
-use Prim.Native.Nat.{ℕ, zero, suc, _+_, _≤_, _<_}
+use Prim.Native.Nat.{ℕ, zero, suc, _≤_}
 use native.Mathlib.Omega.{arith}
-use mathlib.Core.Path.{_≡_, refl, sym, ap, ap₂, _∙_}
-use mathlib.Core.Bool.{Bool, true, false, cond}
+use mathlib.Core.Path.{_≡_, refl, ap, _∙_}
+use mathlib.Core.Bool.{Bool, false}
 use mathlib.Core.List.{List, [], _∷_, map}
-use mathlib.Core.Option.{Option, none, some}
-use lib.Dec.{ltb}
-use lib.IntN.{ℤ}
-use lib.ListN.{length, getD, replicate, length-set, length-replicate, getD-replicate}
-use lib.Seq.{getD-set-same}
-use Rattle.limits.specs.Answer.{Answer}
+use lib.ListN.{length, replicate, length-set, length-replicate}
 use Rattle.arith.specs.Inner.Flags.{flagsOf}
-use Rattle.semantics.specs.Program.{Range}
-use Rattle.semantics.specs.Formula.{State}
-use Rattle.semantics.specs.Shape.{isLimit, timersOf, hasTimer, timeRanges, withTimes, cells, stateLength, startingState, allWithin, stateInRange, rowLength, rowInRange}
+use Rattle.semantics.specs.Shape.{isLimit, timersOf, hasTimer, timeRanges, withTimes, cells, stateLength, rowLength}
 use Rattle.leb128.specs.Numbers.{Read, got, nothing}
 use Rattle.bytecode.specs.Instructions.{Instruction, fetchOne, fetch}
 use Rattle.bytecode.specs.Signature.{Role, pushes, computes, tests, opens, picks, lets, settles, times, signature}
-use Rattle.bytecode.specs.Check.{Known, tested, item, advance, suits, complete, ends, ifSome, checkCode}
 use Rattle.bytecode.specs.Parts.{headerOf, codeOf, limitIn, limited, limitsFrom, limitsOf, shapeIn}
 use Rattle.bytecode.specs.Inner.Timers.{NoTimers}
 use Rattle.bytecode.proofs.Fetching.{fetch-end, one-fetched}
-use Rattle.bytecode.proofs.Timeless.{TimelessIn, one-timeless, suits-timeless}
+use Rattle.bytecode.proofs.Timeless.{TimelessIn, one-timeless}
 
 -- an instruction without a timer gives no limit
 pub limit-timeless : (r : Role) (ls : List ℕ) → TimelessIn r → limitIn r ls ≡ ls
@@ -33,22 +25,6 @@ limit-timeless (picks side v) ls h = refl
 limit-timeless (lets v) ls h = refl
 limit-timeless (settles v) ls h = refl
 limit-timeless (times t w n) ls h = absurd h
-
--- and one that gives none has no timer
-timeless-limit : (r : Role) → ((ls : List ℕ) → limitIn r ls ≡ ls) → TimelessIn r
-timeless-limit (pushes fits) h = tt
-timeless-limit computes h = tt
-timeless-limit tests h = tt
-timeless-limit opens h = tt
-timeless-limit (picks side v) h = tt
-timeless-limit (lets v) h = tt
-timeless-limit (settles v) h = tt
-timeless-limit (times t w n) h =
-    let ls : List ℕ = replicate (suc t) (suc n) in
-    let l : t < length ls = omega (arith, length-replicate (suc t) (suc n)) in
-    let a : n ≡ getD ls t 0 = sym (getD-set-same ls t n 0 l) ∙ ap (λ (x : List ℕ). getD x t 0) (h ls) in
-    let b : getD ls t 0 ≡ suc n = getD-replicate (suc t) t (suc n) 0 (omega arith) in
-    omega (arith, a, b)
 
 -- ---- code without timers from a place on
 
@@ -65,41 +41,6 @@ module _ (code : List ℕ) (at : ℕ) where
   pub no-timers-step : (i : Instruction) (next : ℕ) → fetchOne code at ≡ got i next → NoTimers code next → NoTimers code at
   no-timers-step i next e h zero ls = refl
   no-timers-step i next e h (suc f) ls = rw (one-fetched code at i next e, limit-timeless (signature i .role) ls (one-timeless code at i next e)) (h f ls)
-
-  -- the other way: the instruction there has none, and there is none behind it
-  module _ (h : NoTimers code at) (i : Instruction) (next : ℕ) (e : fetch code at ≡ got i next) where
-    pub no-timers-here : TimelessIn (signature i .role)
-    no-timers-here = timeless-limit (signature i .role) λ ls. rw e at (h 1 ls)
-
-    pub no-timers-next : NoTimers code next
-    no-timers-next f ls = ap (limitsFrom code f next) (sym (limit-timeless (signature i .role) ls no-timers-here)) ∙ (rw e at (h (suc f) ls))
-
--- the walk over it looks neither at the ranges nor at the instruction before
-pub check-alike : (ns ms : List Range) (base : ℕ) (code : List ℕ) (f at : ℕ) (last other : Option Instruction) (c : Known) → NoTimers code at
-    → checkCode ns base code f at last c ≡ checkCode ms base code f at other c
-check-alike ns ms base code zero at last other c h = refl
-check-alike ns ms base code (suc f) at last other c h = inside (ltb at (length code)) (λ next i c₁ g. check-alike ns ms base code f next (some i) (some i) c₁ g)
-  where
-    more : (o : Option Known) (i : Instruction) (next : ℕ) → ((c₁ : Known) → checkCode ns base code f next (some i) c₁ ≡ checkCode ms base code f next (some i) c₁)
-        → ifSome o (base + at) (λ c₁. checkCode ns base code f next (some i) c₁) ≡ ifSome o (base + at) (λ c₁. checkCode ms base code f next (some i) c₁)
-    more none i next ih = refl
-    more (some c₁) i next ih = ih c₁
-
-    read : (r : Read Instruction) → fetch code at ≡ r
-        → ((next : ℕ) (i : Instruction) (c₁ : Known) → NoTimers code next → checkCode ns base code f next (some i) c₁ ≡ checkCode ms base code f next (some i) c₁)
-        → item r (base + at) (suits ns last) (λ i next. ifSome (advance i c) (base + at) λ c₁. checkCode ns base code f next (some i) c₁)
-        ≡ item r (base + at) (suits ms other) (λ i next. ifSome (advance i c) (base + at) λ c₁. checkCode ms base code f next (some i) c₁)
-    read nothing e ih = refl
-    read (got i next) e ih =
-        let t = no-timers-here code at h i next e in
-        ap₂ (λ (b : Bool) (a : Answer (Unit {0})). tested b (base + at) a) (suits-timeless ns last (signature i .role) t ∙ sym (suits-timeless ms other (signature i .role) t))
-        (more (advance i c) i next λ c₁. ih next i c₁ (no-timers-next code at h i next e))
-
-    inside : (b : Bool) → ((next : ℕ) (i : Instruction) (c₁ : Known) → NoTimers code next → checkCode ns base code f next (some i) c₁ ≡ checkCode ms base code f next (some i) c₁)
-        → cond b (item (fetch code at) (base + at) (suits ns last) (λ i next. ifSome (advance i c) (base + at) λ c₁. checkCode ns base code f next (some i) c₁)) (ends (complete c) (base + length code))
-        ≡ cond b (item (fetch code at) (base + at) (suits ms other) (λ i next. ifSome (advance i c) (base + at) λ c₁. checkCode ms base code f next (some i) c₁)) (ends (complete c) (base + length code))
-    inside true ih = read (fetch code at) refl ih
-    inside false ih = refl
 
 -- ---- tables of limits
 
@@ -131,7 +72,7 @@ all-zero [] h = refl
 all-zero (zero ∷ ls) h = ap (λ (l : List ℕ). zero ∷ l) (all-zero ls h)
 all-zero (suc n ∷ ls) h = let z : _≡_ {A = ℕ} 0 1 = cc in let f : ⊥ = omega arith in absurd f
 
-none-timed : (n : ℕ) → hasTimer (replicate n 0) ≡ false
+pub none-timed : (n : ℕ) → hasTimer (replicate n 0) ≡ false
 none-timed zero = refl
 none-timed (suc n) = none-timed n
 
@@ -161,17 +102,8 @@ module _ (bytes : List ℕ) (none-timed : hasTimer (limitsOf bytes) ≡ false) w
   pub state-length-untimed : stateLength (shapeIn bytes) ≡ length (headerOf bytes .ranges)
   state-length-untimed = ap length cells-untimed
 
-  pub starting-state-untimed : startingState (shapeIn bytes) ≡ map (λ n. n .start) (headerOf bytes .ranges)
-  starting-state-untimed = ap (map (λ n. n .start)) cells-untimed
-
-  pub state-in-range-untimed : (s : State) → stateInRange (shapeIn bytes) s ≡ allWithin (headerOf bytes .ranges) s
-  state-in-range-untimed s = ap (λ (ns : List Range). allWithin ns s) cells-untimed
-
   pub row-length-untimed : rowLength (shapeIn bytes) ≡ headerOf bytes .inputs
   row-length-untimed = rw none-timed
-
-  pub row-in-range-untimed : (row : List ℤ) → rowInRange (shapeIn bytes) row ≡ allWithin (headerOf bytes .ranges) row
-  row-in-range-untimed row = rw none-timed
 
   flags-none : (n : ℕ) → map isLimit (replicate n 0) ≡ flagsOf n 0
   unfolding flagsOf

@@ -1,14 +1,14 @@
 -- The picks of a variable before its settle, along the walk: the sides picked so far are those that the walk knows of. Assumes nothing.
-use Prim.Native.Nat.{ℕ, zero, suc, _<_}
+use Prim.Native.Nat.{ℕ, zero, suc}
 use mathlib.Core.Path.{_≡_, refl, sym, ap, _∙_, subst}
 use mathlib.Core.Bool.{Bool, true, false, not, cond, true≢false}
 use mathlib.Core.List.{List, [], _∷_, _++_, append-assoc, append-nil}
 use mathlib.Core.Option.{Option, none, some}
-use lib.Dec.{T, eqb, ltb, ltb→lt}
+use lib.Dec.{T, eqb, ltb}
 use lib.ListN.{length, getD, set}
 use lib.Seq.{getD-set-same}
 use borrow.Author.Tests.{eqb-true, eqb-false}
-use Rattle.arith.proofs.Basics.{T-not-false, and-left, and-right}
+use Rattle.arith.proofs.Basics.{T-not-false, and-right}
 use Rattle.semantics.specs.Program.{Side, Sided}
 use Rattle.bytecode.specs.Instructions.{Instruction, settle}
 use Rattle.bytecode.specs.Signature.{Sort, Role, pushes, computes, tests, opens, picks, lets, settles, times, signature}
@@ -16,7 +16,7 @@ use Rattle.bytecode.specs.Check.{Picks, Known, known, mayFollow, mayEnd,
 use Rattle.bytecode.specs.Allowed.{picksBy, leftBy, leftByAll, AllowedIn, Allowed}
 use Rattle.bytecode.specs.Inner.Places.{SoundByPlace}
 use Rattle.bytecode.specs.Sound.{idsIn, sideIn, sidesOf}
-use Rattle.bytecode.proofs.Soundness.{some-inj, none≢some}
+use Rattle.bytecode.proofs.Soundness.{some-inj, none≢some, unset-inside}
 use Rattle.bytecode.proofs.Sides.{Shape, shape-first, shape-next, shape-sided}
 use Rattle.bytecode.proofs.Exactly.{Places}
 use Rattle.bytecode.proofs.Paired.{idOf, fresh-id, opened-id, opened-some, ahead}
@@ -35,7 +35,7 @@ sides-first v ids = record { picked = λ p e. none≢some p e; unpicked = λ n i
 
 -- ---- one instruction
 
-set-unset : (ids : List Bool) (u v : ℕ) → getD (set ids u true) v false ≡ false → getD ids v false ≡ false
+pub set-unset : (ids : List Bool) (u v : ℕ) → getD (set ids u true) v false ≡ false → getD ids v false ≡ false
 set-unset [] zero v e = e
 set-unset [] (suc u) v e = e
 set-unset (b ∷ ids) zero zero e = absurd (true≢false e)
@@ -45,9 +45,6 @@ set-unset (b ∷ ids) (suc u) (suc v) e = set-unset ids u v e
 
 pub unset-false : (ids : List Bool) (v : ℕ) → T (unset ids v) → getD ids v false ≡ false
 unset-false ids v h = T-not-false (getD ids v false) (and-right (ltb v (length ids)) (not (getD ids v false)) h)
-
-unset-within : (ids : List Bool) (v : ℕ) → T (unset ids v) → v < length ids
-unset-within ids v h = ltb→lt v (length ids) (and-left (ltb v (length ids)) (not (getD ids v false)) h)
 
 module _ (v : ℕ) (ids : List Bool) (l : List Side) where
   same-sides : (o : Option Picks) → SidesKept v o ids l → SidesKept v o ids (l ++ [])
@@ -92,7 +89,7 @@ module _ (v : ℕ) (ids : List Bool) (l : List Side) where
       }
     where
       other : getD (set ids u true) v false ≡ false → u ≡ v → ⊥
-      other i e = true≢false (sym (getD-set-same ids u true false (unset-within ids u n)) ∙ (ap (λ (w : ℕ). getD (set ids u true) w false) e ∙ i))
+      other i e = true≢false (sym (getD-set-same ids u true false (unset-inside ids u n)) ∙ (ap (λ (w : ℕ). getD (set ids u true) w false) e ∙ i))
 
   kept-in : (r : Role) (rest : List Sort) (g : Bool) (o : Option Picks) → AllowedIn r rest g o ids → SidesKept v o ids l → SidesKept v (picksBy r o) (idsIn r ids) (l ++ sideIn v r)
   kept-in (pushes fits) rest g o a k = same-sides o k

@@ -157,9 +157,6 @@ pub one-next : (bytes : List ℕ) (at : ℕ) (i : Instruction) (next : ℕ) → 
 unfolding fetchOne
 one-next bytes at i next e = inside (ltb at (length bytes)) refl e
   where
-    code : ℕ
-    code = getD bytes at 0
-
     plain : (o : Option Instruction) (to : ℕ) → decoded o to ≡ got i next → at + 1 ≤ to → at < next
     plain none to q l = let z : _≡_ {A = ℕ} 0 1 = cc in omega arith
     plain (some j) to q l = let w : to ≡ next = cc in omega arith

@@ -11,7 +11,7 @@ use lib.ListN.{length, getD, set, drop, replicate, length-set, length-append, le
 use lib.Seq.{getD-append-add, getD-set-same, getD-set-other, ext-getD}
 use borrow.Author.Tests.{ltb-true, ltb-false, eqb-true, eq-eqb}
 use Rattle.semantics.specs.Program.{Rule, target, Timer, timersKnown, OrderedRules, Program, rangesOf, knownFirst, firstTimer, Numbered, EachTimer, TimerFits}
-use Rattle.semantics.specs.Shape.{shapeOf, hasTimer, Setting, settingOf}
+use Rattle.semantics.specs.Shape.{shapeOf, Setting, settingOf}
 use Rattle.semantics.proofs.Timers.{each-map, each-both, numbered-length, numbered-from, at-own, Placed, ownerOf, timer-count, placed}
 use Rattle.semantics.proofs.Cells.{all-true, before-timers, not-taken, known-length, names-kept}
 use Rattle.semantics.proofs.Reference.{length-known, variable-unknown}
@@ -135,9 +135,6 @@ module _ (k : Setting) (n first : ℕ) (owner : ℕ → ℕ) (ts : List Timer) (
     h .size,
     h .names,
     each-map (λ x. Placed k n first owner x × (getD ls (x .id) 0 ≡ cond (getD known (x .watched) false) (x .limit) 0)) (λ x. getD ls (x .id) 0 ≡ x .limit) (λ x q.
-        let a = q .0 .watches in
-        let b = q .0 .after in
-        let c = q .0 .below in
         let e : getD known (x .watched) false ≡ true = all-true known o (x .watched) (omega arith) in
         rw e at (q .1)) ts (each-both (Placed k n first owner) (λ x. getD ls (x .id) 0 ≡ cond (getD known (x .watched) false) (x .limit) 0) ts placed (h .timers)),
   )
@@ -229,11 +226,3 @@ module _ (p : Program) (t : Translatable p) where
 
   pub shape-translated : shapeIn (imageOf p) ≡ shapeOf p
   shape-translated = rw (header-of p t, limits-of)
-
-  -- a program without timers
-  pub translated-untimed : p .timers ≡ [] → hasTimer (limitsOf (imageOf p)) ≡ false
-  translated-untimed e = rw (limits-of, e) (none-timed (length (rangesOf p) - 0))
-    where
-      none-timed : (n : ℕ) → hasTimer (replicate n 0 ++ []) ≡ false
-      none-timed zero = refl
-      none-timed (suc n) = none-timed n

@@ -7,12 +7,12 @@ use lib.IntN.{ℤ}
 use lib.ListN.{length}
 use lib.Seq.{sets}
 use Rattle.limits.specs.Answer.{Answer, accepted, refused}
-use Rattle.bytecode.specs.Check.{Counts, checkCounts, Header, checkHeader, checkOf}
+use Rattle.bytecode.specs.Check.{Header, checkHeader, checkOf}
 use Rattle.bytecode.specs.Parts.{headerOf, lows, highs, starts}
-use Rattle.bytecode.specs.Results.{Extends, HeaderStands, HeadedAs, HeadedBy}
+use Rattle.bytecode.specs.Results.{HeaderStands, HeadedAs, HeadedBy}
 use Rattle.bytecode.specs.declared.Headed.{Headed}
 use Rattle.bytecode.specs.declared.Headed.the-variants as H
-use Rattle.bytecode.proofs.Walk.{SoundImage, header-read, check-sound}
+use Rattle.bytecode.proofs.Walk.{SoundImage, check-sound}
 
 pub header-is : (image : List ℕ) (y : SoundImage image) → headerOf image ≡ y .header
 unfolding headerOf
@@ -59,32 +59,9 @@ module _ (image : List ℕ) {n : ℕ} {low₀ high₀ start₀ low high start : 
 -- ---- a sound image
 
 module _ (image : List ℕ) (sound : checkOf image ≡ accepted tt) where
-  pub counts-not-broken : {X : Type 0} (place : ℕ) → refused 11 place ≡ checkCounts image → X
-  counts-not-broken place e =
-      let y = check-sound image sound in
-      let p = header-read image (y .header) (y .read) .counted in
-      let z : _≡_ {A = ℕ} 0 1 = cc in
-      let b : ⊥ = omega arith in
-      absurd b
-
   pub header-not-broken : {X : Type 0} (place : ℕ) → checkHeader image ≡ refused 11 place → X
   header-not-broken place e =
       let p = check-sound image sound .read in
       let z : _≡_ {A = ℕ} 0 1 = cc in
       let b : ⊥ = omega arith in
       absurd b
-
-  pub sound-counts : (inputs names first : ℕ) → accepted (record { inputs = inputs; names = names; place = first }) ≡ checkCounts image → Extends (length image) inputs names first
-      → SoundCounts image inputs names
-  sound-counts inputs names first e x =
-      let y = check-sound image sound in
-      let h = y .header in
-      let q : headerOf image ≡ h = header-is image y in
-      let r = header-read image h (y .read) in
-      let d : record { inputs = inputs; names = names; place = first } ≡ r .counts = cc (r .counted) in
-      record {
-        inputs-are = rw q (r .inputs ∙ sym (ap (λ (k : Counts). k .inputs) d));
-        names-are = rw q (r .size ∙ sym (ap (λ (k : Counts). k .names) d));
-        among = x .inputs-named;
-        few = x .few;
-      }

@@ -2,16 +2,16 @@
 use Prim.Native.Nat.{ℕ, zero, suc, _≤_, _<_}
 use native.Mathlib.Omega.{arith}
 use mathlib.Core.Path.{_≡_, refl, sym, ap, subst, _∙_}
-use mathlib.Core.Bool.{Bool, true, false, _&&_, not, false≢true}
+use mathlib.Core.Bool.{Bool, true, false, _&&_, false≢true}
 use mathlib.Core.List.{List, [], _∷_}
 use mathlib.Core.Option.{Option, none, some}
-use lib.Dec.{T, eqb, leb, ltb, eqb→eq, leb→le, ltb→lt}
+use lib.Dec.{T, eqb, leb, ltb, eqb→eq, leb→le}
 use lib.ListN.{length, getD, set, replicate, length-set, length-replicate}
 use lib.Seq.{getD-set-same, getD-set-other}
 use borrow.Author.Tests.{ltb-true, ltb-false}
 use Rattle.limits.specs.Limits.{timeLimit}
 use Rattle.limits.specs.Answer.{accepted}
-use Rattle.arith.proofs.Basics.{T-not-false, and-left, and-right}
+use Rattle.arith.proofs.Basics.{and-left, and-right}
 use Rattle.semantics.specs.Program.{Range, rangeAt, isBinary}
 use Rattle.semantics.specs.Shape.{hasTimer}
 use Rattle.bytecode.specs.Instructions.{Instruction, timer, fetch}
@@ -21,9 +21,11 @@ use Rattle.bytecode.specs.Parts.{limitIn, limited, limitsFrom}
 use Rattle.bytecode.specs.Sound.{idsIn}
 use Rattle.bytecode.specs.Allowed.{AllowedIn}
 use Rattle.bytecode.proofs.Fetching.{fetch-end}
-use Rattle.bytecode.proofs.Soundness.{idsOf, known-inside}
+use Rattle.bytecode.proofs.Soundness.{idsOf, known-inside, unset-inside}
 use Rattle.bytecode.proofs.Exactly.{kept-by}
 use Rattle.bytecode.proofs.Walk.{check-stepped}
+use Rattle.bytecode.proofs.Limits.{none-timed}
+use Rattle.bytecode.proofs.PickedSides.{unset-false, set-unset}
 
 -- ---- what is asked of a 23
 
@@ -42,9 +44,6 @@ module _ (ns : List Range) (last : Option Instruction) (t w n : ℕ) (s : T (sui
 
   pub suits-own : T (isTimerRange (rangeAt ns t))
   suits-own = and-left (isTimerRange (rangeAt ns t)) (isBinary (rangeAt ns w)) (and-left (isTimerRange (rangeAt ns t) && isBinary (rangeAt ns w)) (leb 1 n && leb n timeLimit) fitting)
-
-  pub suits-watched : T (isBinary (rangeAt ns w))
-  suits-watched = and-right (isTimerRange (rangeAt ns t)) (isBinary (rangeAt ns w)) (and-left (isTimerRange (rangeAt ns t) && isBinary (rangeAt ns w)) (leb 1 n && leb n timeLimit) fitting)
 
   suits-follows : T (follows last t w)
   suits-follows = and-right (isTimerRange (rangeAt ns t) && isBinary (rangeAt ns w) && (leb 1 n && leb n timeLimit)) (follows last t w) s
@@ -103,13 +102,6 @@ set-kept (b ∷ bs) zero (suc t) e = e
 set-kept (b ∷ bs) (suc v) zero e = e
 set-kept (b ∷ bs) (suc v) (suc t) e = set-kept bs v t e
 
-unset-before : (ids : List Bool) (v t : ℕ) → getD (set ids v true) t false ≡ false → getD ids t false ≡ false
-unset-before ids v t e = go (getD ids t false) refl
-  where
-    go : (b : Bool) → getD ids t false ≡ b → getD ids t false ≡ false
-    go true h = absurd (false≢true (sym e ∙ set-kept ids v t h))
-    go false h = h
-
 set-most : (ls : List ℕ) (t n m : ℕ) → ((u : ℕ) → getD ls u 0 ≤ m) → n ≤ m → (u : ℕ) → getD (set ls t n) u 0 ≤ m
 set-most [] t n m h l u = h u
 set-most (x ∷ ls) zero n m h l zero = l
@@ -120,31 +112,25 @@ set-most (x ∷ ls) (suc t) n m h l (suc u) = set-most ls t n m (λ k. h (suc k)
 differ : (ids : List Bool) (t v : ℕ) → getD ids t false ≡ false → getD ids v false ≡ true → t ≡ v → ⊥
 differ ids t v a b e = false≢true (sym a ∙ ap (λ (y : ℕ). getD ids y false) e ∙ b)
 
-unset-inside : (ids : List Bool) (v : ℕ) → T (unset ids v) → v < length ids
-unset-inside ids v t = ltb→lt v (length ids) (and-left (ltb v (length ids)) (not (getD ids v false)) t)
-
-unset-unknown : (ids : List Bool) (v : ℕ) → T (unset ids v) → getD ids v false ≡ false
-unset-unknown ids v t = T-not-false (getD ids v false) (and-right (ltb v (length ids)) (not (getD ids v false)) t)
-
 module _ (ids : List Bool) (ls : List ℕ) (x : Tabled ids ls) where
   -- a rule
   module _ (v : ℕ) (u : T (unset ids v)) where
     ruled-plain : Plain (set ids v true) ls v
-    ruled-plain = record { is-known = getD-set-same ids v true false (unset-inside ids v u); unlimited = x .waiting v (unset-unknown ids v u) }
+    ruled-plain = record { is-known = getD-set-same ids v true false (unset-inside ids v u); unlimited = x .waiting v (unset-false ids v u) }
 
     ruled-tabled : Tabled (set ids v true) ls
-    ruled-tabled = record { size = x .size ∙ sym (length-set ids v true); waiting = λ t e. x .waiting t (unset-before ids v t e); most = x .most; watches = watched v ruled-plain }
+    ruled-tabled = record { size = x .size ∙ sym (length-set ids v true); waiting = λ t e. x .waiting t (set-unset ids v t e); most = x .most; watches = watched v ruled-plain }
 
   -- a 23
   module _ (t w n : ℕ) (u : T (unset ids t)) (p : Plain ids ls w) (m : n ≤ timeLimit) where
     others : (v : ℕ) → getD ids v false ≡ true → getD (set ls t n) v 0 ≡ getD ls v 0
-    others v k = getD-set-other ls t v n 0 (λ e. differ ids t v (unset-unknown ids t u) k (sym e))
+    others v k = getD-set-other ls t v n 0 (λ e. differ ids t v (unset-false ids t u) k (sym e))
 
     timer-plain : Plain (set ids t true) (set ls t n) w
     timer-plain = record { is-known = set-kept ids t w (p .is-known); unlimited = others w (p .is-known) ∙ p .unlimited }
 
     timer-waiting : (v : ℕ) → getD (set ids t true) v false ≡ false → getD (set ls t n) v 0 ≡ 0
-    timer-waiting v e = getD-set-other ls t v n 0 (differ (set ids t true) v t e (getD-set-same ids t true false (unset-inside ids t u))) ∙ x .waiting v (unset-before ids t v e)
+    timer-waiting v e = getD-set-other ls t v n 0 (differ (set ids t true) v t e (getD-set-same ids t true false (unset-inside ids t u))) ∙ x .waiting v (set-unset ids t v e)
 
     timer-tabled : Tabled (set ids t true) (set ls t n)
     timer-tabled = record { size = length-set ls t n ∙ x .size ∙ sym (length-set ids t true); waiting = timer-waiting; most = set-most ls t n timeLimit (x .most) m; watches = watched w timer-plain }
@@ -193,12 +179,8 @@ zeros-at zero t = refl
 zeros-at (suc n) zero = refl
 zeros-at (suc n) (suc t) = zeros-at n t
 
-zeros-untimed : (n : ℕ) → hasTimer (replicate n 0) ≡ false
-zeros-untimed zero = refl
-zeros-untimed (suc n) = zeros-untimed n
-
 pub limited-begins : (c : Known) (n : ℕ) → n ≡ length (idsOf c) → Limited none c (replicate n 0)
-limited-begins c n l = record { tabled = record { size = length-replicate n 0 ∙ l; waiting = λ t e. zeros-at n t; most = λ t. rw (zeros-at n t) (omega arith); watches = untimed (zeros-untimed n) }; ruled = tt }
+limited-begins c n l = record { tabled = record { size = length-replicate n 0 ∙ l; waiting = λ t e. zeros-at n t; most = λ t. rw (zeros-at n t) (omega arith); watches = untimed (none-timed n) }; ruled = tt }
 
 -- the t of a 23 is a name that was not known, its w one that is, and no timer
 pub record TimerNamed (ids : List Bool) (ls : List ℕ) (t w n : ℕ) : Type 0 where
@@ -214,7 +196,7 @@ timer-named ns last t w n (known vs g o ids) d ls s e x =
     let k = kept-by (timer t w n) (known vs g o ids) d e in
     let u = k .allowed .in-role .2 in
     let p = watched-plain ids ls last t w (suits-follows ns last t w n s) (x .ruled) in
-    record { named = unset-inside ids t u; unknown = unset-unknown ids t u; of-name = known-inside ids w (p .is-known); of-plain = p; least = suits-least ns last t w n s; most = suits-most ns last t w n s }
+    record { named = unset-inside ids t u; unknown = unset-false ids t u; of-name = known-inside ids w (p .is-known); of-plain = p; least = suits-least ns last t w n s; most = suits-most ns last t w n s }
 
 -- ---- the whole walk
 
@@ -245,7 +227,7 @@ limit-other (picks side v) rest g o ids ls t a e = (e, refl)
 limit-other (lets v) rest g o ids ls t a e = (set-kept ids v t e, refl)
 limit-other (settles v) rest g o ids ls t a e = (set-kept ids v t e, refl)
 limit-other (times u w n) rest g o ids ls t a e =
-    (set-kept ids u t e, getD-set-other ls u t n 0 (λ q. differ ids u t (unset-unknown ids u (a .2)) e (sym q)))
+    (set-kept ids u t e, getD-set-other ls u t n 0 (λ q. differ ids u t (unset-false ids u (a .2)) e (sym q)))
 
 abbrev Same : ℕ → ℕ → Option Instruction → Known → List ℕ → Type 0
 Same t n last c ls = (getD (idsOf c) t false ≡ true) × (getD ls t 0 ≡ n)

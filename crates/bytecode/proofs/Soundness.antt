@@ -57,7 +57,7 @@ continue-some (some c₁) f c e = (c₁, refl, e)
 abbrev pub idsOf : Known → List Bool
 idsOf (known vs g o ids) = ids
 
-unset-inside : (ids : List Bool) (v : ℕ) → T (unset ids v) → v < length ids
+pub unset-inside : (ids : List Bool) (v : ℕ) → T (unset ids v) → v < length ids
 unset-inside ids v t = ltb→lt v (length ids) (and-left (ltb v (length ids)) (not (getD ids v false)) t)
 
 pub third : (a b c e : Bool) → T (a && b && c && e) → T c

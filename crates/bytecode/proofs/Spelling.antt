@@ -10,7 +10,7 @@ use lib.Dec.{eqb, leb, ltb}
 use lib.IntN.{ℤ}
 use lib.ListN.{length, getD, drop, drop-of-length-le}
 use lib.Seq.{drop-cons}
-use borrow.Author.Tests.{eqb-true, leb-true, le-leb, lt-leb, ltb-true}
+use borrow.Author.Tests.{eqb-true, leb-true, ltb-true}
 use Rattle.arith.proofs.Basics.{T-true, true-T, and-left, and-right}
 use Rattle.semantics.specs.Program.{Range, changing, rising, falling}
 use Rattle.leb128.specs.Numbers.{number, zigzag, unzigzag, Read, got, nothing, _then_, numberAt, signedAt}
@@ -21,6 +21,7 @@ use Rattle.bytecode.specs.Instructions.{Instruction, constant, current, 
 use Rattle.bytecode.specs.Translation.{encodeRanges}
 use Rattle.bytecode.specs.Sound.{RangesAt, SpellsCode}
 use Rattle.bytecode.proofs.RoundTrip.{byte-inside}
+use Rattle.bytecode.proofs.Codes.{no-operand}
 
 -- ---- the encoding of an instruction is its code byte and its operand
 
@@ -51,10 +52,6 @@ comparison-code c l m = among (λ n. comparisonCode (comparisonOf n) ≡ n) 10 6
     six (suc (suc (suc (suc zero)))) h = refl
     six (suc (suc (suc (suc (suc zero))))) h = refl
     six (suc (suc (suc (suc (suc (suc j)))))) h = let f : ⊥ = omega arith in absurd f
-
-no-operand : (c : ℕ) → 4 ≤ c → c ≤ 19 → hasOperand c ≡ false
-unfolding hasOperand
-no-operand c l m = rw (le-leb 1 c (omega arith), lt-leb c 3 (omega arith), lt-leb 20 c (omega arith), lt-leb 24 c (omega arith))
 
 module _ (c n : ℕ) (i : Instruction) where
   abbrev Encoded : Type 0

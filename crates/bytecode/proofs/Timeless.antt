@@ -15,15 +15,29 @@ use Rattle.bytecode.specs.Signature.{Role, pushes, computes, tests, open
 use Rattle.bytecode.specs.Translation.{codeE, codeC, codeCase, codeK, codeR, codeRules}
 use Rattle.bytecode.specs.Check.{suitsIn}
 
+-- what is asked of the numbers of a timer's instruction, and of no other
+abbrev pub OfTimer : (ℕ → ℕ → ℕ → Type 0) → Role → Type 0
+OfTimer P (pushes fits) = Unit {0}
+OfTimer P computes = Unit {0}
+OfTimer P tests = Unit {0}
+OfTimer P opens = Unit {0}
+OfTimer P (picks side v) = Unit {0}
+OfTimer P (lets v) = Unit {0}
+OfTimer P (settles v) = Unit {0}
+OfTimer P (times t w n) = P t w n
+
+pub of-timer : (P Q : ℕ → ℕ → ℕ → Type 0) → ((t w n : ℕ) → P t w n → Q t w n) → (r : Role) → OfTimer P r → OfTimer Q r
+of-timer P Q f (pushes fits) h = tt
+of-timer P Q f computes h = tt
+of-timer P Q f tests h = tt
+of-timer P Q f opens h = tt
+of-timer P Q f (picks side v) h = tt
+of-timer P Q f (lets v) h = tt
+of-timer P Q f (settles v) h = tt
+of-timer P Q f (times t w n) h = f t w n h
+
 abbrev pub TimelessIn : Role → Type 0
-TimelessIn (pushes fits) = Unit {0}
-TimelessIn computes = Unit {0}
-TimelessIn tests = Unit {0}
-TimelessIn opens = Unit {0}
-TimelessIn (picks side v) = Unit {0}
-TimelessIn (lets v) = Unit {0}
-TimelessIn (settles v) = Unit {0}
-TimelessIn (times t w n) = ⊥
+TimelessIn r = OfTimer (λ t w n. ⊥) r
 
 abbrev pub Timeless : List Instruction → Type 0
 Timeless [] = Unit {0}

@@ -13,7 +13,7 @@ use borrow.Author.Tests.{ltb-true, ltb-false}
 use Rattle.limits.specs.Limits.{caseLimit, noToken, notAllowed, tooMany}
 use Rattle.lexer.specs.Token.{Kind, openSquare, bar, is, token, fault}
 use Rattle.lexer.specs.Lexer.{tokenAt}
-use Rattle.lexer.specs.Results.{kindOf}
+use Rattle.lexer.specs.Results.{kindOf, reachedAt}
 use Rattle.grammar.specs.Parsed.{Parsed, accepted, refused, phrase, followed}
 use Rattle.grammar.specs.Expressions.{Scope, wholeExpression}
 use Rattle.grammar.specs.Conditions.{listed}
@@ -25,7 +25,6 @@ use Rattle.grammar.proofs.Size.{Pays, case-pays}
 use Rattle.expressions.specs.Inner.Steps.{Room}
 use Rattle.agreement.specs.Inner.Spans.{spansIn, spansOf, Spans}
 use Rattle.agreement.proofs.Parts.{spans-none}
-use Rattle.lexer.specs.Results.{reachedAt}
 use Rattle.lexer.specs.declared.Place.{Place}
 use Rattle.lexer.specs.declared.Step.{Step}
 use Rattle.lexer.specs.declared.Step.the-variants.{Refused}

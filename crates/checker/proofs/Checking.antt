@@ -1,13 +1,13 @@
 -- The ways out of check: too long, a broken header, the walk over the code. Assumes nothing.
-use Prim.Native.Nat.{ℕ, _+_, _-_, _≤_, _<_}
+use Prim.Native.Nat.{ℕ, _+_, _≤_, _<_}
 use mathlib.Core.Path.{_≡_, sym, ap, subst, _∙_}
 use mathlib.Core.Bool.{false}
 use mathlib.Core.List.{List, [], map}
 use mathlib.Core.Option.{none}
 use native.Mathlib.Omega.{arith}
 use lib.IntN.{ℤ}
-use lib.ListN.{length, take, drop, length-drop, length-map}
-use lib.Seq.{sets, take-all, length-sets, length-take-le}
+use lib.ListN.{length, take, drop, length-map}
+use lib.Seq.{sets, length-sets, length-take-le}
 use borrow.Author.Tests.{le-leb, lt-leb}
 use Rattle.limits.specs.Answer.{accepted, refused}
 use Rattle.leb128.proofs.Stores.{take-sets}
@@ -26,10 +26,6 @@ use Rattle.checker.specs.Inner.Surveys.{ReadHeader}
 use Rattle.checker.specs.Inner.Timed.{RangesStand}
 use Rattle.checker.specs.Results.{checkedAnswer, Judges}
 use Rattle.checker.proofs.Walking.{answers-whole}
-
--- the part of the image that starts at the header's end
-pub rest-of : (bytes : List ℕ) (place : ℕ) → take (length bytes - place) (drop place bytes) ≡ drop place bytes
-rest-of bytes place = take-all (length bytes - place) (drop place bytes) (omega (arith, length-drop place bytes))
 
 -- numbers stored at the front of lent memory that has room for them
 pub stored : (f : Range → ℤ) (ns : List Range) (n : ℕ) (l left : List ℤ) → length ns ≡ n → n ≤ length l → left ≡ sets l 0 (map f ns) → map f ns ≡ take n left
@@ -91,7 +87,6 @@ module _ (bytes : List ℕ) {low₀ high₀ start₀ low high start : List ℤ} 
 
     ranges-stand : RangesStand (x .ranges) (take names low) (take names high) (take names start)
     ranges-stand =
-        let few = x .extends .few in
         record {
           lower = stored (λ n. n .low) (x .ranges) names low₀ low (x .many) (omega arith) (x .lower);
           upper = stored (λ n. n .high) (x .ranges) names high₀ high (x .many) (omega arith) (x .upper);

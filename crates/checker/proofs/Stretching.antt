@@ -8,7 +8,7 @@ use mathlib.Core.Bool.{true, false}
 use mathlib.Core.List.{List}
 use mathlib.Core.Option.{Option, none, some}
 use lib.ListN.{length, getD}
-use borrow.Author.Tests.{lt-ltb, le-leb, lt-leb}
+use borrow.Author.Tests.{lt-ltb}
 use Rattle.arith.specs.Inner.Flags.{flagsOf}
 use Rattle.arith.proofs.Flags.{length-flags}
 use Rattle.leb128.specs.Numbers.{got, unzigzag}
@@ -16,9 +16,9 @@ use Rattle.leb128.proofs.Laws.{one-group}
 use Rattle.bytecode.specs.Instructions.{Instruction, constant, current, previous, operation, comparison, operationOf, comparisonOf, instructionOf, hasOperand, decoded, fetchOne}
 use Rattle.bytecode.specs.Signature.{number, truth}
 use Rattle.bytecode.specs.Check.{Known, advance}
-use Rattle.bytecode.proofs.Codes.{operation-of, comparison-of}
-use Rattle.bytecode.proofs.Fetching.{fetch-alone, fetch-number, one-fetched}
-use Rattle.bytecode.proofs.RoundTrip.{fetch-next}
+use Rattle.bytecode.proofs.Codes.{operation-of, comparison-of, no-operand}
+use Rattle.bytecode.proofs.Fetching.{fetch-alone, fetch-number}
+use Rattle.bytecode.proofs.RoundTrip.{one-next}
 use Rattle.bytecode.proofs.Soundness.{none≢some, known-inside}
 use Rattle.checker.specs.declared.advance.Walk.{Walk}
 use Rattle.checker.specs.Inner.Walk.{openOf, knownOf, advanceBy, pushed, joined, outside, Small}
@@ -71,10 +71,6 @@ module _ (code : List ℕ) (at : ℕ) (i : Instruction) where
 
   by-itself : (next : ℕ) → at + 1 ≡ next → at < length code → hasOperand (getD code at 0) ≡ false → instructionOf (getD code at 0) 0 ≡ some i → fetchOne code at ≡ got i next
   by-itself next q l has e = fetch-alone code at l has ∙ rw (e, q)
-
-no-operand : (code : ℕ) → 4 ≤ code → code < 20 → hasOperand code ≡ false
-unfolding hasOperand
-no-operand code l h = rw (le-leb 1 code (omega arith), lt-leb code 3 (omega arith), lt-leb 20 code h, lt-leb 24 code (omega arith))
 
 -- ---- a constant, and what follows it
 
@@ -163,12 +159,9 @@ single-leads code at w next k (some i) e q l s = record { steps = lastStep at (k
 
 -- ---- the walk goes on behind them
 
-onward : (code : List ℕ) (at : ℕ) (i : Instruction) (next : ℕ) → fetchOne code at ≡ got i next → (at < length code) × (at < next)
-onward code at i next e = fetch-next code at i next (one-fetched code at i next e)
-
 keeps-walks : (code : List ℕ) (at : ℕ) (c : Known) (next : ℕ) (c₁ : Known) → KeepsTo code at c next c₁ → WalksTo code at c next c₁
 keeps-walks code at c next c₁ k =
-    let n = onward code at (k .instruction) next (k .fetched) in
+    let n = one-next code at (k .instruction) next (k .fetched) in
     walks-step code at c (n .0) (some (k .instruction)) next (k .fetched) c₁ (k .advanced) (n .1)
 
 steps-walk : {code : List ℕ} (at : ℕ) (c : Known) (at₁ : ℕ) (c₁ : Known) → StepsTo code at c at₁ c₁ → WalksTo code at c at₁ c₁
@@ -179,8 +172,8 @@ pub stretch-walks : {code : List ℕ} {at : ℕ} {w : Walk} {next : ℕ} {k : Wa
 stretch-walks {code} {at} {w} {next} {k} s = steps-walk at (knownOf w) next (knownOf k) (s .steps)
 
 steps-onward : {code : List ℕ} (at : ℕ) (c : Known) (at₁ : ℕ) (c₁ : Known) → StepsTo code at c at₁ c₁ → at < at₁
-steps-onward {code} _ _ _ _ (lastStep at c next c₁ k) = onward code at (k .instruction) next (k .fetched) .1
-steps-onward {code} _ _ _ _ (firstStep at c next c₁ at₂ c₂ k r) = omega (arith, onward code at (k .instruction) next (k .fetched) .1, steps-onward next c₁ at₂ c₂ r)
+steps-onward {code} _ _ _ _ (lastStep at c next c₁ k) = one-next code at (k .instruction) next (k .fetched) .1
+steps-onward {code} _ _ _ _ (firstStep at c next c₁ at₂ c₂ k r) = omega (arith, one-next code at (k .instruction) next (k .fetched) .1, steps-onward next c₁ at₂ c₂ r)
 
 pub stretch-onward : {code : List ℕ} {at : ℕ} {w : Walk} {next : ℕ} {k : Walk} → LeadsTo code at w next k → at < next
 stretch-onward {code} {at} {w} {next} {k} s = steps-onward at (knownOf w) next (knownOf k) (s .steps)

@@ -2,15 +2,16 @@
 use mathlib.Core.Path.{_≡_, refl, sym, ap, _∙_}
 use mathlib.Core.Bool.{true, false}
 use mathlib.Core.List.{List}
-use Prim.Native.Nat.{ℕ, zero, suc, _+_, _*_, _-_, _/_, _^_, _≤_, _<_}
+use Prim.Native.Nat.{ℕ, _*_, _/_, _^_, _≤_, _<_}
 use native.Mathlib.Omega.{arith}
 use lib.IntN.{ℤ, pos, negsuc, negℤ, natAbs, _+ℤ_, _-ℤ_, _*ℤ_}
 use lib.Signed.{mag, ltZ, quotZ, natAbs-le}
-use borrow.Author.Tests.{ltb-true, le-ltb}
+use borrow.Author.Tests.{ltb-true}
 use mir.Syntax.{w32, w64}
 use mir.Val.{SFits, toZ, ofZ}
 use mir.Facts.{toZ-ofZ}
 use Rattle.arith.proofs.Laws.{mag-add, mag-neg, mag-mul, cast64, widened}
+use Rattle.leb128.proofs.Signs.{mirror-negsuc, mirror-pos}
 use Rattle.clock.specs.Clock.{Entry, offsetAt, localAt, dayOf, minuteOf}
 use Rattle.clock.specs.Inner.Numbers.{SmallNumbers}
 use Rattle.clock.proofs.Entries.{local-is, at-small}
@@ -26,12 +27,6 @@ fits64 : {z : ℤ} → mag z < 2 ^ 63 → SFits w64 z
 fits64 h = record { sfits = h }
 
 -- ---- the day: -1 - z turns a number below zero round
-turned : (n : ℕ) → negsuc 0 -ℤ negsuc n ≡ pos n
-turned n = let e : suc n - 1 ≡ n = omega arith in rw (le-ltb (suc n) 1 (omega arith)) (ap pos e)
-
-turned-back : (n : ℕ) → negsuc 0 -ℤ pos n ≡ negsuc n
-turned-back zero = refl
-turned-back (suc n) = let e : suc (0 + n) ≡ suc n = omega arith in ap negsuc e
 
 -- what the code asks below zero, and what it gets
 pub record Below (z : ℤ) : Type 0 where
@@ -52,11 +47,11 @@ below-zero (negsuc n) h t =
     let e : held (negsuc (n / 1440)) ≡ negsuc (n / 1440) = same64 (fits64 {z = negsuc (n / 1440)} (omega arith)) in
     let n32 : SFits w32 (negsuc (n / 1440)) = record { sfits = omega arith } in
     record {
-      first = rw (a, turned n) (fits64 {z = pos n} (omega arith));
-      quotient = rw (a, turned n, b) (fits64 {z = pos (n / 1440)} (omega arith));
-      second = rw (a, turned n, b, d, turned-back (n / 1440)) (fits64 {z = negsuc (n / 1440)} (omega arith));
-      narrow = rw (a, turned n, b, d, turned-back (n / 1440), e) n32;
-      day = rw (a, turned n, b, d, turned-back (n / 1440), e) (toZ-ofZ {w = w32} n32);
+      first = rw (a, mirror-negsuc n) (fits64 {z = pos n} (omega arith));
+      quotient = rw (a, mirror-negsuc n, b) (fits64 {z = pos (n / 1440)} (omega arith));
+      second = rw (a, mirror-negsuc n, b, d, mirror-pos (n / 1440)) (fits64 {z = negsuc (n / 1440)} (omega arith));
+      narrow = rw (a, mirror-negsuc n, b, d, mirror-pos (n / 1440), e) n32;
+      day = rw (a, mirror-negsuc n, b, d, mirror-pos (n / 1440), e) (toZ-ofZ {w = w32} n32);
     }
 
 pub record Above (z : ℤ) : Type 0 where

@@ -27,6 +27,7 @@ use Rattle.translate.specs.declared.Analysis.{Analysis}
 use Rattle.translate.specs.declared.Analysis.the-variants as N
 use Rattle.translate.specs.Inner.Descent.{HeaderCounts, measuresOf, analysed, measured, Analyses}
 use Rattle.translate.proofs.Service.{measured-refused}
+use Rattle.expressions.proofs.Scopes.{names-length}
 use Rattle.clock.specs.declared.Filled.the-variants as F
 use Rattle.clock.specs.Clock.{Entry, entriesOf, isMinute, isTable, localAt, dayOf, minuteOf, againOf}
 use Rattle.clock.specs.Services.{inputsOf, filledAt, rowFilled, fillOf}
@@ -70,13 +71,6 @@ names-take text (s ∷ starts) [] k n h = sym (take-nil k)
 names-take text (s ∷ starts) (e ∷ ends) zero n h = refl
 names-take text (s ∷ starts) (e ∷ ends) (suc k) zero h = absurd (omega arith)
 names-take text (s ∷ starts) (e ∷ ends) (suc k) (suc n) h = ap (λ (l : List (List ℕ)). part text s e ∷ l) (names-take text starts ends k n (omega arith))
-
-names-few : (text starts ends : List ℕ) (k : ℕ) → length (tableNames text starts ends k) ≤ k
-unfolding tableNames
-names-few text [] ends k = omega arith
-names-few text (s ∷ starts) [] k = omega arith
-names-few text (s ∷ starts) (e ∷ ends) zero = omega arith
-names-few text (s ∷ starts) (e ∷ ends) (suc k) = omega (arith, names-few text starts ends k)
 
 -- an accepted text: its program, whose inputs the table holds first
 pub record Read (text starts ends : List ℕ) (inputs timers : ℕ) : Type 0 where
@@ -182,7 +176,7 @@ module _ (text : List ℕ) (table : List ℤ) (utc : ℤ) (row : List ℤ) where
         unfolding fillOf programOf
         all-filled front e w =
             let k : length (take inputs row) ≡ inputs = front-length row inputs timers e in
-            let long : length (inputsOf (d .program)) ≤ length (take inputs row) = omega (arith, k, d .counted, ap length (sym (d .spelled)), names-few text starts ends inputs) in
+            let long : length (inputsOf (d .program)) ≤ length (take inputs row) = omega (arith, k, d .counted, ap length (sym (d .spelled)), names-length text starts ends inputs) in
             let whole : front ++ drop inputs row ≡ rowFilled (inputsOf (d .program)) (entriesOf table) utc row =
             ap (λ (l : List ℤ). l ++ drop inputs row) (w ∙ ap (λ (l : List (List ℕ)). rowFilled l (entriesOf table) utc (take inputs row)) (ap (tableNames text starts ends) k ∙ d .spelled))
             ∙ sym (front-filled (inputsOf (d .program)) (entriesOf table) utc (take inputs row) (drop inputs row) long)

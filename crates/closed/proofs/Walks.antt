@@ -112,10 +112,7 @@ module _ (f : Scans) (ns is : List Range) (rows first end : ℕ) (e : rows ≡ p
 
 -- ---- the numbers
 
--- the state and the row that a number begins with
-pub begins-before : (first rows : ℕ) → first / rows * rows ≤ first
-begins-before first rows = omega (arith, div-add-mod' first rows)
-
+-- the state that a number begins with
 pub begins-behind : (first rows : ℕ) → 1 ≤ rows → first < first / rows * rows + rows
 begins-behind first rows h = omega (arith, div-add-mod' first rows, mod-lt first h)
 

@@ -63,9 +63,6 @@ module _ (p : Program) (t : Translatable p) where
       let c = cells-length p fit in
       let d = timer-count p fit in
       each-map (λ x. Placed k n (firstTimer p) (ownerOf p) x × TimerFits (rangesOf p) (p .inputs) (firstTimer p) x) (Room k s) (λ x q.
-      let a = q .0 .below in
-      let b = q .0 .after in
-      let e = q .0 .place in
       (omega arith, omega arith, q .1 .most)) (p .timers)
       (each-both (Placed k n (firstTimer p) (ownerOf p)) (TimerFits (rangesOf p) (p .inputs) (firstTimer p)) (p .timers) (placed p fit row) (fit .each))
 

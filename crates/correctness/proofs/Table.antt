@@ -35,106 +35,88 @@ use Rattle.correctness.specs.Examples.{Example, imageGiven, HoldsOn, Hol
 
 -- ---- equality of answers, computed
 
-abbrev sameBytes : List ℕ → List ℕ → Bool
-sameBytes [] [] = true
-sameBytes [] (y ∷ ys) = false
-sameBytes (x ∷ xs) [] = false
-sameBytes (x ∷ xs) (y ∷ ys) = eqb x y && sameBytes xs ys
+abbrev sameList : {A : Type 0} → (A → A → Bool) → List A → List A → Bool
+sameList f [] [] = true
+sameList f [] (y ∷ ys) = false
+sameList f (x ∷ xs) [] = false
+sameList f (x ∷ xs) (y ∷ ys) = f x y && sameList f xs ys
 
-bytes-same : (xs ys : List ℕ) → T (sameBytes xs ys) → xs ≡ ys
-bytes-same [] [] h = refl
-bytes-same [] (y ∷ ys) h = absurd h
-bytes-same (x ∷ xs) [] h = absurd h
-bytes-same (x ∷ xs) (y ∷ ys) h = ap₂ _∷_ (eqb→eq x y (and-left (eqb x y) _ h)) (bytes-same xs ys (and-right (eqb x y) _ h))
+list-same : {A : Type 0} (f : A → A → Bool) → ((x y : A) → T (f x y) → x ≡ y) → (xs ys : List A) → T (sameList f xs ys) → xs ≡ ys
+list-same f g [] [] h = refl
+list-same f g [] (y ∷ ys) h = absurd h
+list-same f g (x ∷ xs) [] h = absurd h
+list-same f g (x ∷ xs) (y ∷ ys) h = ap₂ _∷_ (g x y (and-left (f x y) _ h)) (list-same f g xs ys (and-right (f x y) _ h))
+
+abbrev sameAnswer : {A : Type 0} → (A → A → Bool) → Answer A → Answer A → Bool
+sameAnswer f (accepted u) (accepted w) = f u w
+sameAnswer f (accepted u) (refused m q) = false
+sameAnswer f (refused n p) (accepted w) = false
+sameAnswer f (refused n p) (refused m q) = eqb n m && eqb p q
+
+answer-same : {A : Type 0} (f : A → A → Bool) → ((x y : A) → T (f x y) → x ≡ y) → (a b : Answer A) → T (sameAnswer f a b) → a ≡ b
+answer-same f g (accepted u) (accepted w) h = ap accepted (g u w h)
+answer-same f g (accepted u) (refused m q) h = absurd h
+answer-same f g (refused n p) (accepted w) h = absurd h
+answer-same f g (refused n p) (refused m q) h = ap₂ refused (eqb→eq n m (and-left (eqb n m) _ h)) (eqb→eq p q (and-right (eqb n m) _ h))
 
 abbrev sameState : List ℤ → List ℤ → Bool
-sameState [] [] = true
-sameState [] (y ∷ ys) = false
-sameState (x ∷ xs) [] = false
-sameState (x ∷ xs) (y ∷ ys) = eqZ x y && sameState xs ys
+sameState = sameList eqZ
 
-state-same : (xs ys : List ℤ) → T (sameState xs ys) → xs ≡ ys
-state-same [] [] h = refl
-state-same [] (y ∷ ys) h = absurd h
-state-same (x ∷ xs) [] h = absurd h
-state-same (x ∷ xs) (y ∷ ys) h = ap₂ _∷_ (eqZ→≡ x y (and-left (eqZ x y) _ h)) (state-same xs ys (and-right (eqZ x y) _ h))
+state-same : (s t : List ℤ) → T (sameState s t) → s ≡ t
+state-same = list-same eqZ eqZ→≡
 
-abbrev sameAnswer : Answer (Unit {0}) → Answer (Unit {0}) → Bool
-sameAnswer (accepted u) (accepted w) = true
-sameAnswer (accepted u) (refused m q) = false
-sameAnswer (refused n p) (accepted w) = false
-sameAnswer (refused n p) (refused m q) = eqb n m && eqb p q
+abbrev sameVerdict : Answer (Unit {0}) → Answer (Unit {0}) → Bool
+sameVerdict = sameAnswer (λ u w. true)
 
-answer-same : (a b : Answer (Unit {0})) → T (sameAnswer a b) → a ≡ b
-answer-same (accepted u) (accepted w) h = refl
-answer-same (accepted u) (refused m q) h = absurd h
-answer-same (refused n p) (accepted w) h = absurd h
-answer-same (refused n p) (refused m q) h = ap₂ refused (eqb→eq n m (and-left (eqb n m) _ h)) (eqb→eq p q (and-right (eqb n m) _ h))
+verdict-same : (a b : Answer (Unit {0})) → T (sameVerdict a b) → a ≡ b
+verdict-same = answer-same (λ u w. true) (λ u w h. refl)
 
 abbrev sameScan : AfterScan → AfterScan → Bool
-sameScan a b = sameAnswer (a .answer) (b .answer) && (eqb (a .steps) (b .steps) && sameState (a .state) (b .state))
+sameScan a b = sameVerdict (a .answer) (b .answer) && (eqb (a .steps) (b .steps) && sameState (a .state) (b .state))
 
 scan-made : (x y : Answer (Unit {0})) (n m : ℕ) (s t : List ℤ) → x ≡ y → n ≡ m → s ≡ t → _≡_ {A = AfterScan} (record { answer = x; steps = n; state = s }) (record { answer = y; steps = m; state = t })
 scan-made x y n m s t e f g = rw (e, f, g)
 
 scan-same : (a b : AfterScan) → T (sameScan a b) → a ≡ b
 scan-same a b h =
-    let k = and-right (sameAnswer (a .answer) (b .answer)) _ h in
-    scan-made (a .answer) (b .answer) (a .steps) (b .steps) (a .state) (b .state) (answer-same (a .answer) (b .answer) (and-left (sameAnswer (a .answer) (b .answer)) _ h))
+    let k = and-right (sameVerdict (a .answer) (b .answer)) _ h in
+    scan-made (a .answer) (b .answer) (a .steps) (b .steps) (a .state) (b .state) (verdict-same (a .answer) (b .answer) (and-left (sameVerdict (a .answer) (b .answer)) _ h))
     (eqb→eq (a .steps) (b .steps) (and-left (eqb (a .steps) (b .steps)) _ k)) (state-same (a .state) (b .state) (and-right (eqb (a .steps) (b .steps)) _ k))
 
 abbrev sameScans : List AfterScan → List AfterScan → Bool
-sameScans [] [] = true
-sameScans [] (b ∷ bs) = false
-sameScans (a ∷ more) [] = false
-sameScans (a ∷ more) (b ∷ bs) = sameScan a b && sameScans more bs
-
-scans-same : (a b : List AfterScan) → T (sameScans a b) → a ≡ b
-scans-same [] [] h = refl
-scans-same [] (b ∷ bs) h = absurd h
-scans-same (a ∷ more) [] h = absurd h
-scans-same (a ∷ more) (b ∷ bs) h = ap₂ _∷_ (scan-same a b (and-left (sameScan a b) _ h)) (scans-same more bs (and-right (sameScan a b) _ h))
+sameScans = sameList sameScan
 
 -- ---- the test
 
 -- an image written, or the refusal
 abbrev sameImage : Answer (List ℕ) → Answer (List ℕ) → Bool
-sameImage (accepted u) (accepted w) = sameBytes u w
-sameImage (accepted u) (refused m q) = false
-sameImage (refused n p) (accepted w) = false
-sameImage (refused n p) (refused m q) = eqb n m && eqb p q
-
-image-same : (a b : Answer (List ℕ)) → T (sameImage a b) → a ≡ b
-image-same (accepted u) (accepted w) h = ap accepted (bytes-same u w h)
-image-same (accepted u) (refused m q) h = absurd h
-image-same (refused n p) (accepted w) h = absurd h
-image-same (refused n p) (refused m q) h = ap₂ refused (eqb→eq n m (and-left (eqb n m) _ h)) (eqb→eq p q (and-right (eqb n m) _ h))
+sameImage = sameAnswer (sameList eqb)
 
 abbrev sameStart : AfterStart → AfterStart → Bool
-sameStart a b = sameAnswer (a .answer) (b .answer) && sameState (a .state) (b .state)
+sameStart a b = sameVerdict (a .answer) (b .answer) && sameState (a .state) (b .state)
 
 start-made : (x y : Answer (Unit {0})) (s t : List ℤ) → x ≡ y → s ≡ t → _≡_ {A = AfterStart} (record { answer = x; state = s }) (record { answer = y; state = t })
 start-made x y s t e f = rw (e, f)
 
 start-same : (a b : AfterStart) → T (sameStart a b) → a ≡ b
 start-same a b h =
-    start-made (a .answer) (b .answer) (a .state) (b .state) (answer-same (a .answer) (b .answer) (and-left (sameAnswer (a .answer) (b .answer)) _ h))
-    (state-same (a .state) (b .state) (and-right (sameAnswer (a .answer) (b .answer)) _ h))
+    start-made (a .answer) (b .answer) (a .state) (b .state) (verdict-same (a .answer) (b .answer) (and-left (sameVerdict (a .answer) (b .answer)) _ h))
+    (state-same (a .state) (b .state) (and-right (sameVerdict (a .answer) (b .answer)) _ h))
 
 -- what start leaves of minus ones, and what it should
 abbrev starts : List ℕ → Example → Bool
 starts b e = sameStart (startOf b (map (λ z. negsuc 0) (e .first))) (record { answer = e .verdict; state = e .first })
 
 abbrev testOn : Answer (List ℕ) → Example → Bool
-testOn (accepted b) e = sameAnswer (checkOf b) (e .verdict) && (starts b e && sameScans (scansOf b (e .first) (e .rows)) (e .results))
+testOn (accepted b) e = sameVerdict (checkOf b) (e .verdict) && (starts b e && sameScans (scansOf b (e .first) (e .rows)) (e .results))
 testOn (refused number place) e = true
 
 on-holds : (a : Answer (List ℕ)) (e : Example) → T (testOn a e) → HoldsOn a e
 on-holds (accepted b) e h =
-    let k = and-right (sameAnswer (checkOf b) (e .verdict)) _ h in (
-      answer-same (checkOf b) (e .verdict) (and-left (sameAnswer (checkOf b) (e .verdict)) _ h),
+    let k = and-right (sameVerdict (checkOf b) (e .verdict)) _ h in (
+      verdict-same (checkOf b) (e .verdict) (and-left (sameVerdict (checkOf b) (e .verdict)) _ h),
       start-same _ (record { answer = e .verdict; state = e .first }) (and-left (starts b e) _ k),
-      scans-same _ (e .results) (and-right (starts b e) _ k),
+      list-same sameScan scan-same _ (e .results) (and-right (starts b e) _ k),
     )
 on-holds (refused number place) e h = tt
 
@@ -143,7 +125,7 @@ test e = sameImage (imageGiven (e .given)) (e .translation) && testOn (e .transl
 
 test-holds : (e : Example) → T (test e) → HoldsOf e
 test-holds e h = (
-  image-same (imageGiven (e .given)) (e .translation) (and-left (sameImage (imageGiven (e .given)) (e .translation)) _ h),
+  answer-same (sameList eqb) (list-same eqb eqb→eq) (imageGiven (e .given)) (e .translation) (and-left (sameImage (imageGiven (e .given)) (e .translation)) _ h),
   on-holds (e .translation) e (and-right (sameImage (imageGiven (e .given)) (e .translation)) _ h),
 )
 

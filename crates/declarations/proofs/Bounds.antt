@@ -1,6 +1,6 @@
 -- Laws of signed numbers in a text: the digits' value capped at 2 ^ 32, and the tests that bounds and starts pass. Assumes nothing.
 use mathlib.Core.Path.{_≡_, refl, sym, ap, _∙_}
-use mathlib.Core.Bool.{Bool, true, false, _&&_, false≢true, cond}
+use mathlib.Core.Bool.{Bool, true, false, _&&_, false≢true, cond, and-false}
 use mathlib.Core.List.{List}
 use mathlib.Core.Option.{none, some}
 use Prim.Native.Nat.{ℕ, zero, suc, _^_, _≤_, _<_, min}
@@ -32,10 +32,6 @@ use Rattle.declarations.specs.declared.Number.the-variants.{Is, Outside}
 use Rattle.declarations.proofs.Numbers.{kept, between}
 
 -- ---- tests
-
-and-false : (a : Bool) → (a && false) ≡ false
-and-false true = refl
-and-false false = refl
 
 -- a test that follows from another adds nothing to it
 absorbed : (a b : Bool) → (b ≡ true → a ≡ true) → (a && b) ≡ b

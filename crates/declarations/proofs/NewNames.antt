@@ -24,6 +24,7 @@ use Rattle.lexer.specs.declared.Step.{Step}
 use Rattle.lexer.specs.declared.Step.the-variants.{Done, Refused}
 use Rattle.grammar.proofs.Combine.{same-value, same-end, never}
 use Rattle.declarations.specs.Inner.Tables.{TableRoom, TableHolds, Names}
+use Rattle.declarations.proofs.Entries.{step-refused}
 
 -- ---- the definition, test by test
 
@@ -57,16 +58,13 @@ module _ (text : List ℕ) (names : List Name) (at : ℕ) where
 
 -- ---- the answer
 
-not-done : {A : Type 0} (k p : ℕ) (x : Place) → Refused k p ≡ Done x → A
-not-done k p x h = let z : _≡_ {A = ℕ} 0 1 = cc in absurd (omega arith)
-
 module _ (text starts ends : List ℕ) (at count : ℕ) (starts' ends' : List ℕ) where
   abbrev Answers : Step → Type 0
   Answers r = ((names : List Name) → TableHolds text starts ends count names → Names text names at count ends starts' ends' r) × ((x : Place) → r ≡ Done x → count < 64)
 
   refuses : {r : Step} (k p : ℕ) → r ≡ Refused k p → ((names : List Name) → TableHolds text starts ends count names → newName text names at ≡ refused k p) → Answers r
   refuses k p g f =
-      (λ names h. record { answer = rw (g, f names h); named = λ w n e. never k p n w (sym (f names h) ∙ e); ended = λ w n e. never k p n w (sym (f names h) ∙ e) }, λ x e. not-done k p x (sym g ∙ e))
+      (λ names h. record { answer = rw (g, f names h); named = λ w n e. never k p n w (sym (f names h) ∙ e); ended = λ w n e. never k p n w (sym (f names h) ∙ e) }, λ x e. step-refused k p x (sym g ∙ e))
 
   pub faulty-name : {r : Step} (k p : ℕ) → r ≡ Refused k p → (tokenAt text at ≡ fault p) × (k ≡ noToken) → Answers r
   faulty-name k p g e = refuses noToken p (g ∙ ap (λ (x : ℕ). Refused x p) (e .1)) (λ names h. name-fault text names at p (e .0))

@@ -77,9 +77,6 @@ module _ (o : Scan) (y : May (o .image) (o .start) (o .row)) where
   unfolding codeOf
   code-short = simp length-drop (omega (arith, placed (o .image) (y .sound) .short))
 
-  first : Machine
-  first = machine false false [] (begunWith o)
-
   pub first-sized : Sized (length (o .start)) (machine false false [] (begunWith o))
   first-sized =
       let k = shapeIn (o .image) in

@@ -3,7 +3,7 @@ use Prim.Native.Nat.{ℕ, _≤_}
 use native.Mathlib.Omega.{arith}
 use mathlib.Core.Path.{_≡_, refl, _∙_}
 use mathlib.Core.Bool.{Bool, true, false, _&&_}
-use mathlib.Core.List.{List, [], _∷_}
+use mathlib.Core.List.{List}
 use lib.Dec.{eqb}
 use lib.IntN.{ℤ}
 use lib.ListN.{length}
@@ -11,22 +11,16 @@ use borrow.Author.Tests.{eqb-true}
 use Rattle.before.specs.Before.{beforeCode, mayScan, testedBefore}
 use Rattle.limits.specs.Limits.{imageLimit, nameLimit}
 use Rattle.limits.specs.Answer.{Answer, accepted, refused}
-use Rattle.semantics.specs.Program.{Range}
 use Rattle.semantics.specs.Formula.{State}
 use Rattle.bytecode.specs.Check.{checkOf}
 use Rattle.bytecode.specs.Parts.{headerOf, shapeIn}
-use Rattle.bytecode.specs.Sound.{RangesAt}
 use Rattle.bytecode.proofs.Walk.{refused≢accepted, check-sound}
-use Rattle.bytecode.proofs.Heading.{signed-within}
+use Rattle.bytecode.proofs.Heading.{ranges-inside}
 use Rattle.bytecode.proofs.Fetching.{number-within}
 use Rattle.bytecode.proofs.SoundHeader.{header-is}
 use Rattle.semantics.specs.Shape.{Shape, stateLength, rowLength, stateInRange, rowInRange}
 use Rattle.scan.specs.Services.{refusedScan, scanCode, scanOf}
 use Rattle.scan.proofs.Scans.{scan-is}
-
-ranges-inside : (bytes : List ℕ) (ns : List Range) (at end : ℕ) → RangesAt bytes at ns end → at ≤ length bytes → end ≤ length bytes
-ranges-inside bytes [] at end r h = omega arith
-ranges-inside bytes (n ∷ ns) at end r h = ranges-inside bytes ns (r .2) end (r .6) (signed-within bytes (r .1) (n .start) (r .2) (r .5) .inside)
 
 -- the code of a sound image
 pub record Placed (image : List ℕ) : Type 0 where

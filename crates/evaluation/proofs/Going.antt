@@ -9,9 +9,8 @@ use lib.IntN.{ℤ, pos}
 use lib.ListN.{length, getD, drop, length-map, length-drop}
 use Rattle.arith.specs.Values.{Outcome, ok, refusal, _>>=_}
 use Rattle.arith.proofs.Basics.{ok≢refusal, ok-inj}
-use Rattle.semantics.specs.Program.{Condition, free}
+use Rattle.semantics.specs.Program.{Condition, free, noRange}
 use Rattle.semantics.specs.Formula.{State, evalC}
-use Rattle.semantics.specs.Program.{noRange}
 use Rattle.semantics.specs.Shape.{Setting}
 use Rattle.semantics.proofs.Reference.{length-known}
 use Rattle.leb128.specs.Numbers.{Read, got, nothing}

@@ -138,9 +138,6 @@ module _ (S : Setting) where
   kind-after : (t : List ℕ) (w : Kind) (at : ℕ) → at ≤ reached (kindAt t w at)
   kind-after t w at = comes-after t at (kindAt t w at) (kind-comes t w at)
 
-  span-room : (t : List ℕ) (c : Spanned) → c .span .to ≤ length t → c .span .to ≤ c .span .from + length t
-  span-room t c h = omega arith
-
   listed-stays : (cs : List Spanned) (ls : Tokens) → Listed (S .text) cs ls → Before (S .place) cs → Listed (S .twin) cs ls
   listed-stays cs ls (last c ts h g) l =
       last c ts (omega (arith, spells-in normally (S .text) (c .span .from) (c .span .to) ts h g .0, l .0, S .some-bytes, S .in-twin)) (spells-stay ts (c .span .from) (c .span .to) h g (l .0))

@@ -17,14 +17,13 @@ use Rattle.lexer.specs.Names.{idOf}
 use Rattle.lexer.proofs.Laws.{cond-prop, token-at-moved}
 use Rattle.semantics.specs.Program.{Name, Condition, Timer, Rule, Watch, target, allTrue, taken, timersKnown, knownFirst, free}
 use Rattle.semantics.proofs.Cells.{known-length}
-use Rattle.grammar.specs.Parsed.{Parsed, accepted, refused, onOption, phrase}
+use Rattle.grammar.specs.Parsed.{Parsed, accepted, refused, onOption, phrase, followed}
 use Rattle.grammar.specs.Expressions.{withId, wholeExpression}
 use Rattle.grammar.specs.Conditions.{listed}
 use Rattle.grammar.specs.Declarations.{inRange, signedDigits, boundAt, spellings, newName, startAt, declaration, declarationsFrom, declarations}
 use Rattle.grammar.specs.Timers.{WithTimers, isWatchable, watchedAt, limitAt, timerDeclaration, timersFrom}
 use Rattle.grammar.specs.Rules.{Spanned, caseAt, casesFrom, listFrom, plainList, partsFrom, agreeingList, functionAt, changeAt, pairAt, formulaAt, formulas, ruleAt, rulesFrom}
 use Rattle.grammar.specs.Forms.{changeOpening, noChangeOpening, ruleOpening}
-use Rattle.grammar.specs.Parsed.{followed}
 use Rattle.grammar.specs.Inner.Names.{Named}
 use Rattle.grammar.proofs.Combine.{token-prop, then-prop}
 use Rattle.grammar.specs.Watches.{laterAt, afterFirst, watchAt, watchesFrom}

@@ -89,7 +89,6 @@ module _ (text : List ℕ) where
   differs-here at n n1 w P h su sp =
       let i = stands-in normally text at n1 w h su .1 in
       let j = spells-in normally text n1 n P i sp .0 in
-      let k = su .is-token .some-bytes in
       record { place = at; kind = su .kind; end = n1; reached = Reach.none; is-token = is-read su; early = omega arith }
 
   pub part-stays : (f to at : ℕ) → partFrom f text to to at ≡ agrees at

@@ -23,7 +23,7 @@ use Rattle.bytecode.specs.Check.{Known, advance, suits, complete, tested, item,
 use Rattle.bytecode.specs.Sound.{RangesAt, Sound}
 use Rattle.bytecode.specs.Allowed.{leftBy, Allowed, Finished}
 use Rattle.bytecode.proofs.Fetching.{number-within}
-use Rattle.bytecode.proofs.Heading.{signed-within}
+use Rattle.bytecode.proofs.Heading.{ranges-inside}
 use Rattle.bytecode.proofs.RoundTrip.{fetch-next}
 use Rattle.bytecode.proofs.Soundness.{none≢some}
 use Rattle.bytecode.proofs.Exactly.{kept-by, allowed-advances, finished-by, complete-if, item-passes, range-passes, ranges-pass, counts-pass}
@@ -57,7 +57,6 @@ item-fails {A} {B} (got a next) at test k P place f e = go (test a) refl e
     go : (t : Bool) → test a ≡ t → tested t at (k a next) ≡ refused 11 place → Fails (got a next) at test k P place
     go true h q = later a next refl (true-T (test a) h) q
     go false h q = here (cc) (λ x.
-        let r = x .read in
         let i : x .what ≡ a = cc in
         let j : T (test a) = subst (λ (y : A). T (test y)) i (f (x .what) (x .kept)) in
         subst T h j)
@@ -154,8 +153,6 @@ header-fails bytes place e = go (checkCounts bytes) refl e
     go (accepted c) h f =
         let x = counts-fit bytes c h in
         let y = ranges-fail bytes (c .names) (c .place) place (headerWith (c .inputs)) (λ ns next q. refused≢accepted (record { inputs = c .inputs; ranges = ns; place = next }) 11 place (sym q)) f in
-        let s = x .size in
-        let w = x .few in
         I.range (c .inputs) (x .variables) (y .ranges) (y .to)
         (record { at₁ = x .at₁; at₂ = c .place; inputs-read = x .inputs-read; variables-read = x .variables-read; few = omega arith; ranges-read = y .stands; fit = y .fit }) (omega (arith, y .short)) (y .breaks)
 
@@ -232,13 +229,11 @@ module _ (ns : List Range) (base : ℕ) (code : List ℕ) where
 
   stuck : (at : ℕ) (last : Option Instruction) (c : Known) (i : Instruction) (next : ℕ) → fetch code at ≡ got i next → advance i c ≡ none → Keeps (fetch code at) (λ i. Allowed i c × T (suits ns last i)) → ⊥
   stuck at last c i next r a x =
-      let g : got i next ≡ got (x .what) (x .next) = sym r ∙ x .read in
       let w : i ≡ x .what = cc in
       none≢some (leftBy (x .what) c) (sym a ∙ (ap (λ (y : Instruction). advance y c) w ∙ allowed-advances (x .what) c (x .kept .0)))
 
   unsuited : (at : ℕ) (last : Option Instruction) (c : Known) (i : Instruction) (next : ℕ) → fetch code at ≡ got i next → suits ns last i ≡ false → Keeps (fetch code at) (λ i. Allowed i c × T (suits ns last i)) → ⊥
   unsuited at last c i next r s x =
-      let g : got i next ≡ got (x .what) (x .next) = sym r ∙ x .read in
       let w : i ≡ x .what = cc in
       false≢true (sym s ∙ (ap (λ (y : Instruction). suits ns last y) w ∙ T-true (suits ns last (x .what)) (x .kept .1)))
 
@@ -269,15 +264,10 @@ module _ (ns : List Range) (base : ℕ) (code : List ℕ) where
 
 -- ---- the image
 
--- the code begins within the image
-ranges-within : (bytes : List ℕ) (at : ℕ) (ns : List Range) (to : ℕ) → at ≤ length bytes → RangesAt bytes at ns to → to ≤ length bytes
-ranges-within bytes at [] to h r = subst (λ (x : ℕ). x ≤ length bytes) r h
-ranges-within bytes at (n ∷ ns) to h r = ranges-within bytes (r .2) ns to (signed-within bytes (r .1) (n .start) (r .2) (r .5) .inside) (r .6)
-
 ends-at : (bytes : List ℕ) (h : Header) → HeaderKept bytes h → h .place + length (drop (h .place) bytes) ≡ length bytes
 ends-at bytes h x =
     let r = x .ranges in
-    let w = ranges-within bytes (r .at₂) (h .ranges) (h .place) (number-within bytes (r .at₁) (x .variables) (r .at₂) (r .variables-read) .inside) (r .ranges-read) in
+    let w = ranges-inside bytes (h .ranges) (r .at₂) (h .place) (r .ranges-read) (number-within bytes (r .at₁) (x .variables) (r .at₂) (r .variables-read) .inside) in
     omega (arith, length-drop (h .place) bytes)
 
 body-fails : (bytes : List ℕ) (place : ℕ) (h : Header) → HeaderKept bytes h → checkBody bytes h ≡ refused 11 place → Breaks bytes place

@@ -8,14 +8,15 @@ use native.Mathlib.Nat.{le-refl}
 use native.Mathlib.Omega.{arith}
 use lib.ListN.{length, getD}
 use lib.Dec.{ltb, eqb}
-use borrow.Author.Tests.{le-ltb, ltb-true, ltb-false}
+use borrow.Author.Tests.{ltb-true, ltb-false}
 use Rattle.lexer.specs.Bytes.{part}
 use Rattle.lexer.specs.Token.{Kind, kindNumber, unknown, ending, name, is, TokenRead, token, fault}
 use Rattle.lexer.specs.Lexer.{isSpace, isDigit, isLetter, isAlphanumeric, runEnd, wordOf, pairOf, signOf, readOf, signAt, wordAt, digitsAt, previousAt, tokenOf, tokenPast, tokenAt}
-use Rattle.lexer.proofs.Laws.{cond-prop, run-out, run-from, token-past-space, Moved, token-moved, token-at-moved}
+use Rattle.lexer.proofs.Laws.{cond-prop, run-from, token-past-space, Moved, token-moved, token-at-moved}
 use Rattle.lexer.proofs.Same.{same-kind}
 use Rattle.grammar.specs.Derivation.{Tokens, Spells, asWritten}
 use Rattle.lexer.proofs.Spellings.{end-place}
+use Rattle.lexer.proofs.Tokens.{token-beyond}
 use Rattle.grammar.proofs.Standing.{stands, stands-in, written}
 
 -- where what is read begins
@@ -39,17 +40,13 @@ module _ (text : List ℕ) where
 
   -- ---- what is read stands at or after the place, wherever that is
 
-  token-out : (a : ℕ) → length text ≤ a → tokenAt text a ≡ token ending a a
-  unfolding tokenAt tokenPast
-  token-out a h = rw (run-out isSpace text a h, le-ltb a (length text) h)
-
   pub token-after : (a : ℕ) (k : Kind) (s n : ℕ) → tokenAt text a ≡ token k s n → (a ≤ s) × (s ≤ n)
   token-after a k s n e = go (ltb (length text) a) refl
     where
       go : (t : Bool) → ltb (length text) a ≡ t → (a ≤ s) × (s ≤ n)
       go true t =
           let l = ltb-true (length text) a t in
-          let f : token ending a a ≡ token k s n = sym (token-out a (omega arith)) ∙ e in
+          let f : token ending a a ≡ token k s n = sym (token-beyond text a (omega arith)) ∙ e in
           let g : a ≡ s = cc in
           let h : a ≡ n = cc in
           (omega arith, omega arith)
@@ -68,7 +65,6 @@ module _ (text : List ℕ) where
   ordered none d = inl d
   ordered (more k s n e r) none = inr (more k s n e r)
   ordered {a} {b} {c} (more k s n e r) (more k2 s2 n2 e2 r2) =
-      let f : token k s n ≡ token k2 s2 n2 = sym e ∙ e2 in
       let g : n2 ≡ n = cc in
       ordered {c = c} r (subst (λ (x : ℕ). Reaches x c) g r2)
 
@@ -102,7 +98,7 @@ module _ (text : List ℕ) where
   end-stays : {a b : ℕ} → a ≡ length text → Reaches a b → b ≡ length text
   end-stays h none = h
   end-stays {a} {b} h (more k s n e r) =
-      let f : token ending a a ≡ token k s n = sym (token-out a (omega arith)) ∙ e in
+      let f : token ending a a ≡ token k s n = sym (token-beyond text a (omega arith)) ∙ e in
       let g : a ≡ n = cc in
       end-stays {b = b} (sym g ∙ h) r
 
@@ -123,7 +119,7 @@ module _ (text : List ℕ) where
           let e2 : tokenAt text a ≡ token ending s n = rw q at e in
           let p = end-place text a s n h e2 in
           let l = end-stays (p .1) r in
-          record { before = []; end = a; spells = refl; same = e2 ∙ rw (p .0, p .1, l) (sym (token-out (length text) (le-refl (length text)))) }
+          record { before = []; end = a; spells = refl; same = e2 ∙ rw (p .0, p .1, l) (sym (token-beyond text (length text) (le-refl (length text)))) }
       go false t ih =
           let st = stands written text a k s n h (not-ending k t) e in
           let i = stands-in written text a n (part text s n) h st .1 in

@@ -116,13 +116,11 @@ ahead-spells text n m (t ∷ ts) us h (n1, st, g) ah = λ k s m2 e.
     let q : token (st .kind) (st .start) n1 ≡ token k s m2 = sym (is-read st) ∙ e in
     let i : st .start ≡ s = cc in
     let j : n1 ≡ m2 = cc in
-    let b = st .is-token .some-bytes in
     let w : t ≡ normal (part text s m2) = sym (st .spelled) ∙ rw (i, j) refl in
     (λ z. let p = end-place text n s m2 h (e ∙ ap (λ (x : Kind). token x s m2) z) in absurd (omega (arith, p .0, p .1)), λ z. (ts ++ us, ap (λ (v : List ℕ). v ∷ (ts ++ us)) w))
 
 ahead-stands : (text : List ℕ) (n : ℕ) (k : Kind) (s m : ℕ) → tokenAt text n ≡ token k s m → (us : Tokens) → Ahead k (normal (part text s m)) us → AheadAt text n us
 ahead-stands text n k s m e us ah k2 s2 m2 f =
-    let o : token k s m ≡ token k2 s2 m2 = sym e ∙ f in
     let o1 : k ≡ k2 = cc in
     let o2 : s ≡ s2 = cc in
     let o3 : m ≡ m2 = cc in

@@ -52,35 +52,21 @@ module _ (names : List (List ℕ)) (good : AreNames names) where
     in-square : (ts : Tokens) → InSquare names ts → Atom (bytes "[" ∷ ts)
     inverts : (ts : Tokens) → Squared ts → Atom (bytes "~" ∷ ts)
 
-  atom-of : (v : LevelC) (l : ℕ) (ts : Tokens) (c : Condition) → SpellsC names v l ts c → v ≡ D.atom → Atom ts
-  atom-of v l ts c (D.SpellsC.compared w o us vs a b g d f) q = compares (us ++ w ∷ vs) (us, w ∷ vs, refl, record { open-brackets = l; value = a; spelled = d }, (w, vs, refl, (o, g), record { open-brackets = l; value = b; spelled = f }))
-  atom-of v l ts c (D.SpellsC.square us x d) q = in-square (us ++ bytes "]" ∷ []) (us, bytes "]" ∷ [], refl, record { open-brackets = _; value = x; spelled = d }, refl)
-  atom-of v l ts c (not-square us x d) q = inverts (bytes "[" ∷ us ++ bytes "]" ∷ []) (us ++ bytes "]" ∷ [], refl, (us, bytes "]" ∷ [], refl, record { open-brackets = _; value = x; spelled = d }, refl))
-  atom-of v l ts c (one-atom us x d) q = let z : _≡_ {A = ℕ} 0 1 = cc in absurd (omega arith)
-  atom-of v l ts c (conjoined us vs a b d f) q = let z : _≡_ {A = ℕ} 0 1 = cc in absurd (omega arith)
-  atom-of v l ts c (one-conjunction us x d) q = let z : _≡_ {A = ℕ} 0 1 = cc in absurd (omega arith)
-  atom-of v l ts c (disjoined us vs a b d f) q = let z : _≡_ {A = ℕ} 0 1 = cc in absurd (omega arith)
+  atom-of : (l : ℕ) (ts : Tokens) (c : Condition) → SpellsC names D.atom l ts c → Atom ts
+  atom-of l ts c (D.SpellsC.compared w o us vs a b g d f) = compares (us ++ w ∷ vs) (us, w ∷ vs, refl, record { open-brackets = l; value = a; spelled = d }, (w, vs, refl, (o, g), record { open-brackets = l; value = b; spelled = f }))
+  atom-of l ts c (D.SpellsC.square us x d) = in-square (us ++ bytes "]" ∷ []) (us, bytes "]" ∷ [], refl, record { open-brackets = _; value = x; spelled = d }, refl)
+  atom-of l ts c (not-square us x d) = inverts (bytes "[" ∷ us ++ bytes "]" ∷ []) (us ++ bytes "]" ∷ [], refl, (us, bytes "]" ∷ [], refl, record { open-brackets = _; value = x; spelled = d }, refl))
 
   atom-form : (ts : Tokens) → K D.atom ts → Atom ts
-  atom-form ts x = atom-of D.atom (x .open-brackets) ts (x .value) (x .spelled) refl
+  atom-form ts x = atom-of (x .open-brackets) ts (x .value) (x .spelled)
 
-  conjunction-of : (v : LevelC) (l : ℕ) (ts : Tokens) (c : Condition) → SpellsC names v l ts c → v ≡ D.conjunction → Joins (K D.atom) (Tails And (K D.atom)) ts
-  conjunction-of v l ts c (one-atom us x d) q = one-tail And (K D.atom) us (record { open-brackets = l; value = x; spelled = d })
-  conjunction-of v l ts c (conjoined us vs a b d f) q = more-tails And (K D.atom) (bytes "&") us vs (conjunction-of D.conjunction l us a d refl) refl (record { open-brackets = l; value = b; spelled = f })
-  conjunction-of v l ts c (D.SpellsC.compared w o us vs a b g d f) q = let z : _≡_ {A = ℕ} 0 1 = cc in absurd (omega arith)
-  conjunction-of v l ts c (D.SpellsC.square us x d) q = let z : _≡_ {A = ℕ} 0 1 = cc in absurd (omega arith)
-  conjunction-of v l ts c (not-square us x d) q = let z : _≡_ {A = ℕ} 0 1 = cc in absurd (omega arith)
-  conjunction-of v l ts c (one-conjunction us x d) q = let z : _≡_ {A = ℕ} 0 1 = cc in absurd (omega arith)
-  conjunction-of v l ts c (disjoined us vs a b d f) q = let z : _≡_ {A = ℕ} 0 1 = cc in absurd (omega arith)
+  conjunction-of : (l : ℕ) (ts : Tokens) (c : Condition) → SpellsC names D.conjunction l ts c → Joins (K D.atom) (Tails And (K D.atom)) ts
+  conjunction-of l ts c (one-atom us x d) = one-tail And (K D.atom) us (record { open-brackets = l; value = x; spelled = d })
+  conjunction-of l ts c (conjoined us vs a b d f) = more-tails And (K D.atom) (bytes "&") us vs (conjunction-of l us a d) refl (record { open-brackets = l; value = b; spelled = f })
 
-  condition-of : (v : LevelC) (l : ℕ) (ts : Tokens) (c : Condition) → SpellsC names v l ts c → v ≡ D.condition → Joins (K D.conjunction) (Tails Or (K D.conjunction)) ts
-  condition-of v l ts c (one-conjunction us x d) q = one-tail Or (K D.conjunction) us (record { open-brackets = l; value = x; spelled = d })
-  condition-of v l ts c (disjoined us vs a b d f) q = more-tails Or (K D.conjunction) (bytes "|") us vs (condition-of D.condition l us a d refl) refl (record { open-brackets = l; value = b; spelled = f })
-  condition-of v l ts c (D.SpellsC.compared w o us vs a b g d f) q = let z : _≡_ {A = ℕ} 0 1 = cc in absurd (omega arith)
-  condition-of v l ts c (D.SpellsC.square us x d) q = let z : _≡_ {A = ℕ} 0 1 = cc in absurd (omega arith)
-  condition-of v l ts c (not-square us x d) q = let z : _≡_ {A = ℕ} 0 1 = cc in absurd (omega arith)
-  condition-of v l ts c (one-atom us x d) q = let z : _≡_ {A = ℕ} 0 1 = cc in absurd (omega arith)
-  condition-of v l ts c (conjoined us vs a b d f) q = let z : _≡_ {A = ℕ} 0 1 = cc in absurd (omega arith)
+  condition-of : (l : ℕ) (ts : Tokens) (c : Condition) → SpellsC names D.condition l ts c → Joins (K D.conjunction) (Tails Or (K D.conjunction)) ts
+  condition-of l ts c (one-conjunction us x d) = one-tail Or (K D.conjunction) us (record { open-brackets = l; value = x; spelled = d })
+  condition-of l ts c (disjoined us vs a b d f) = more-tails Or (K D.conjunction) (bytes "|") us vs (condition-of l us a d) refl (record { open-brackets = l; value = b; spelled = f })
 
   -- a comparison begins with neither `~` nor `[`
   compared-first : (k : Kind) (w : List ℕ) → Spelling k w → (isBegin k ≡ false) → (us xs ys : Tokens) → w ∷ us ≡ xs ++ ys → Compared xs → ⊥
@@ -171,12 +157,12 @@ module _ (names : List (List ℕ)) (good : AreNames names) where
     conjunction-sole : Anywhere names good sc (K D.conjunction) AfterConjunction (λ at. conjunction inner inside sc at)
     unfolding conjunction andOf is kindNumber
     conjunction-sole at h =
-        chain-sole (sc .text) And (K D.atom) (K D.conjunction) (AfterExpression names good) connect andOf ands-end (λ w e. (ampersand, andAlso, e, refl)) (λ k w o e sp. only-sign k w sp ampersand andAlso o e .0) and-ends (λ xs x. conjunction-of D.conjunction (x .open-brackets) xs (x .value) (x .spelled) refl) (atom inner inside sc) atom-sole at h
+        chain-sole (sc .text) And (K D.atom) (K D.conjunction) (AfterExpression names good) connect andOf ands-end (λ w e. (ampersand, andAlso, e, refl)) (λ k w o e sp. only-sign k w sp ampersand andAlso o e .0) and-ends (λ xs x. conjunction-of (x .open-brackets) xs (x .value) (x .spelled)) (atom inner inside sc) atom-sole at h
 
     pub condition-sole : Anywhere names good sc (K D.condition) AfterCondition (λ at. condition inner inside sc at)
     unfolding condition orOf is kindNumber
     condition-sole at h =
-        chain-sole (sc .text) Or (K D.conjunction) (K D.condition) AfterConjunction connect orOf ors-end (λ w e. (bar, orElse, e, refl)) (λ k w o e sp. only-sign k w sp bar orElse o e .0) or-ends (λ xs x. condition-of D.condition (x .open-brackets) xs (x .value) (x .spelled) refl) (conjunction inner inside sc) conjunction-sole at h
+        chain-sole (sc .text) Or (K D.conjunction) (K D.condition) AfterConjunction connect orOf ors-end (λ w e. (bar, orElse, e, refl)) (λ k w o e sp. only-sign k w sp bar orElse o e .0) or-ends (λ xs x. condition-of (x .open-brackets) xs (x .value) (x .spelled)) (conjunction inner inside sc) conjunction-sole at h
 
   module _ (sc : Scope) where
     pub square-sole : (left : ℕ) → Inside names good sc (InSquare names) (λ s n. square left sc s n)

@@ -97,20 +97,14 @@ module _ (names : List (List ℕ)) (good : AreNames names) where
     one : (k : Kind) (w : List ℕ) → Spelling k w → Plain k → Primary (w ∷ [])
     round : (ts : Tokens) → E D.expression ts → Primary (bytes "(" ∷ ts ++ bytes ")" ∷ [])
 
-  primary-of : (v : Level) (l : ℕ) (ts : Tokens) (e : Expression) → SpellsE names v l ts e → v ≡ D.primary → Primary ts
-  primary-of v l ts e (a-number w h g) q = one digits w h a-digit
-  primary-of v l ts e (a-current w i h) q = one name w (good i w h) a-name
-  primary-of v l ts e (a-previous w i h) q = one T.previous (95 ∷ w) (record { rest = w; is-cons = refl; is-name = good i w h }) before
-  primary-of v l ts e (brackets us x d) q = round us (record { open-brackets = _; value = x; spelled = d })
-  primary-of v l ts e (plain us x d) q = let z : _≡_ {A = ℕ} 0 1 = cc in absurd (omega arith)
-  primary-of v l ts e (opposite us x d) q = let z : _≡_ {A = ℕ} 0 1 = cc in absurd (omega arith)
-  primary-of v l ts e (one-factor us x d) q = let z : _≡_ {A = ℕ} 0 1 = cc in absurd (omega arith)
-  primary-of v l ts e (product w o us vs a b g c d) q = let z : _≡_ {A = ℕ} 0 1 = cc in absurd (omega arith)
-  primary-of v l ts e (one-term us x d) q = let z : _≡_ {A = ℕ} 0 1 = cc in absurd (omega arith)
-  primary-of v l ts e (sum w o us vs a b g c d) q = let z : _≡_ {A = ℕ} 0 1 = cc in absurd (omega arith)
+  primary-of : (l : ℕ) (ts : Tokens) (e : Expression) → SpellsE names D.primary l ts e → Primary ts
+  primary-of l ts e (a-number w h g) = one digits w h a-digit
+  primary-of l ts e (a-current w i h) = one name w (good i w h) a-name
+  primary-of l ts e (a-previous w i h) = one T.previous (95 ∷ w) (record { rest = w; is-cons = refl; is-name = good i w h }) before
+  primary-of l ts e (brackets us x d) = round us (record { open-brackets = _; value = x; spelled = d })
 
   primary-form : (ts : Tokens) → E D.primary ts → Primary ts
-  primary-form ts x = primary-of D.primary (x .open-brackets) ts (x .value) (x .spelled) refl
+  primary-form ts x = primary-of (x .open-brackets) ts (x .value) (x .spelled)
 
   -- a token that begins a primary
   primary-first : (k : Kind) (w : List ℕ) → Spelling k w → is k digits ≡ false → is k name ≡ false → is k T.previous ≡ false → is k openRound ≡ false → (us xs ys : Tokens) → w ∷ us ≡ xs ++ ys → Primary xs → ⊥
@@ -144,20 +138,12 @@ module _ (names : List (List ℕ)) (good : AreNames names) where
     bare : (ts : Tokens) → E D.primary ts → Factor ts
     negative-of : (ts : Tokens) → E D.primary ts → Factor (bytes "-" ∷ ts)
 
-  factor-of : (v : Level) (l : ℕ) (ts : Tokens) (e : Expression) → SpellsE names v l ts e → v ≡ D.factor → Factor ts
-  factor-of v l ts e (plain us x d) q = bare us (record { open-brackets = l; value = x; spelled = d })
-  factor-of v l ts e (opposite us x d) q = negative-of us (record { open-brackets = l; value = x; spelled = d })
-  factor-of v l ts e (a-number w h g) q = let z : _≡_ {A = ℕ} 0 1 = cc in absurd (omega arith)
-  factor-of v l ts e (a-current w i h) q = let z : _≡_ {A = ℕ} 0 1 = cc in absurd (omega arith)
-  factor-of v l ts e (a-previous w i h) q = let z : _≡_ {A = ℕ} 0 1 = cc in absurd (omega arith)
-  factor-of v l ts e (brackets us x d) q = let z : _≡_ {A = ℕ} 0 1 = cc in absurd (omega arith)
-  factor-of v l ts e (one-factor us x d) q = let z : _≡_ {A = ℕ} 0 1 = cc in absurd (omega arith)
-  factor-of v l ts e (product w o us vs a b g c d) q = let z : _≡_ {A = ℕ} 0 1 = cc in absurd (omega arith)
-  factor-of v l ts e (one-term us x d) q = let z : _≡_ {A = ℕ} 0 1 = cc in absurd (omega arith)
-  factor-of v l ts e (sum w o us vs a b g c d) q = let z : _≡_ {A = ℕ} 0 1 = cc in absurd (omega arith)
+  factor-of : (l : ℕ) (ts : Tokens) (e : Expression) → SpellsE names D.factor l ts e → Factor ts
+  factor-of l ts e (plain us x d) = bare us (record { open-brackets = l; value = x; spelled = d })
+  factor-of l ts e (opposite us x d) = negative-of us (record { open-brackets = l; value = x; spelled = d })
 
   factor-form : (ts : Tokens) → E D.factor ts → Factor ts
-  factor-form ts x = factor-of D.factor (x .open-brackets) ts (x .value) (x .spelled) refl
+  factor-form ts x = factor-of (x .open-brackets) ts (x .value) (x .spelled)
 
   minus-goes : (us xs ys : Tokens) → bytes "-" ∷ us ≡ xs ++ ys → Factor xs → (zs : Tokens) × (xs ≡ bytes "-" ∷ zs) × E D.primary zs
   unfolding is kindNumber
@@ -165,29 +151,13 @@ module _ (names : List (List ℕ)) (good : AreNames names) where
   minus-goes us xs ys e (bare ts x) = absurd (primary-first minus (bytes "-") refl refl refl refl refl us ts ys e (primary-form ts x))
 
   -- `* / mod` over factors
-  term-of : (v : Level) (l : ℕ) (ts : Tokens) (e : Expression) → SpellsE names v l ts e → v ≡ D.term → Joins (E D.factor) (Tails Product (E D.factor)) ts
-  term-of v l ts e (one-factor us x d) q = one-tail Product (E D.factor) us (record { open-brackets = l; value = x; spelled = d })
-  term-of v l ts e (product w o us vs a b g c d) q = more-tails Product (E D.factor) w us vs (term-of D.term l us a c refl) (o, g) (record { open-brackets = l; value = b; spelled = d })
-  term-of v l ts e (a-number w h g) q = let z : _≡_ {A = ℕ} 0 1 = cc in absurd (omega arith)
-  term-of v l ts e (a-current w i h) q = let z : _≡_ {A = ℕ} 0 1 = cc in absurd (omega arith)
-  term-of v l ts e (a-previous w i h) q = let z : _≡_ {A = ℕ} 0 1 = cc in absurd (omega arith)
-  term-of v l ts e (brackets us x d) q = let z : _≡_ {A = ℕ} 0 1 = cc in absurd (omega arith)
-  term-of v l ts e (plain us x d) q = let z : _≡_ {A = ℕ} 0 1 = cc in absurd (omega arith)
-  term-of v l ts e (opposite us x d) q = let z : _≡_ {A = ℕ} 0 1 = cc in absurd (omega arith)
-  term-of v l ts e (one-term us x d) q = let z : _≡_ {A = ℕ} 0 1 = cc in absurd (omega arith)
-  term-of v l ts e (sum w o us vs a b g c d) q = let z : _≡_ {A = ℕ} 0 1 = cc in absurd (omega arith)
+  term-of : (l : ℕ) (ts : Tokens) (e : Expression) → SpellsE names D.term l ts e → Joins (E D.factor) (Tails Product (E D.factor)) ts
+  term-of l ts e (one-factor us x d) = one-tail Product (E D.factor) us (record { open-brackets = l; value = x; spelled = d })
+  term-of l ts e (product w o us vs a b g c d) = more-tails Product (E D.factor) w us vs (term-of l us a c) (o, g) (record { open-brackets = l; value = b; spelled = d })
 
-  expression-of : (v : Level) (l : ℕ) (ts : Tokens) (e : Expression) → SpellsE names v l ts e → v ≡ D.expression → Joins (E D.term) (Tails Sum (E D.term)) ts
-  expression-of v l ts e (one-term us x d) q = one-tail Sum (E D.term) us (record { open-brackets = l; value = x; spelled = d })
-  expression-of v l ts e (sum w o us vs a b g c d) q = more-tails Sum (E D.term) w us vs (expression-of D.expression l us a c refl) (o, g) (record { open-brackets = l; value = b; spelled = d })
-  expression-of v l ts e (a-number w h g) q = let z : _≡_ {A = ℕ} 0 1 = cc in absurd (omega arith)
-  expression-of v l ts e (a-current w i h) q = let z : _≡_ {A = ℕ} 0 1 = cc in absurd (omega arith)
-  expression-of v l ts e (a-previous w i h) q = let z : _≡_ {A = ℕ} 0 1 = cc in absurd (omega arith)
-  expression-of v l ts e (brackets us x d) q = let z : _≡_ {A = ℕ} 0 1 = cc in absurd (omega arith)
-  expression-of v l ts e (plain us x d) q = let z : _≡_ {A = ℕ} 0 1 = cc in absurd (omega arith)
-  expression-of v l ts e (opposite us x d) q = let z : _≡_ {A = ℕ} 0 1 = cc in absurd (omega arith)
-  expression-of v l ts e (one-factor us x d) q = let z : _≡_ {A = ℕ} 0 1 = cc in absurd (omega arith)
-  expression-of v l ts e (product w o us vs a b g c d) q = let z : _≡_ {A = ℕ} 0 1 = cc in absurd (omega arith)
+  expression-of : (l : ℕ) (ts : Tokens) (e : Expression) → SpellsE names D.expression l ts e → Joins (E D.term) (Tails Sum (E D.term)) ts
+  expression-of l ts e (one-term us x d) = one-tail Sum (E D.term) us (record { open-brackets = l; value = x; spelled = d })
+  expression-of l ts e (sum w o us vs a b g c d) = more-tails Sum (E D.term) w us vs (expression-of l us a c) (o, g) (record { open-brackets = l; value = b; spelled = d })
 
   abbrev pub Begins : Tokens → Type 0
   Begins ts = (k : Kind) × (w : List ℕ) × (vs : Tokens) × (ts ≡ w ∷ vs) × Spelling k w × (isBegin k ≡ true)
@@ -208,10 +178,10 @@ module _ (names : List (List ℕ)) (good : AreNames names) where
   begins-joined ts xs ys q (k, w, vs, e, sp, t) = (k, w, vs ++ ys, q ∙ ap (λ (z : Tokens). z ++ ys) e, sp, t)
 
   begins-term : (ts : Tokens) → E D.term ts → Begins ts
-  begins-term ts x = let j = term-of D.term (x .open-brackets) ts (x .value) (x .spelled) refl in begins-joined ts (j .0) (j .1) (j .2) (begins-factor (j .0) (factor-form (j .0) (j .3)))
+  begins-term ts x = let j = term-of (x .open-brackets) ts (x .value) (x .spelled) in begins-joined ts (j .0) (j .1) (j .2) (begins-factor (j .0) (factor-form (j .0) (j .3)))
 
   pub begins-expression : (ts : Tokens) → E D.expression ts → Begins ts
-  begins-expression ts x = let j = expression-of D.expression (x .open-brackets) ts (x .value) (x .spelled) refl in begins-joined ts (j .0) (j .1) (j .2) (begins-term (j .0) (j .3))
+  begins-expression ts x = let j = expression-of (x .open-brackets) ts (x .value) (x .spelled) in begins-joined ts (j .0) (j .1) (j .2) (begins-term (j .0) (j .3))
 
   -- what may follow a term, an expression
   abbrev AfterTerm : Tokens → Type 0
@@ -293,12 +263,12 @@ module _ (names : List (List ℕ)) (good : AreNames names) where
       term-sole : Anywhere (E D.term) AfterTerm (λ at. term inner sc at)
       unfolding term
       term-sole at h =
-          chain-sole (sc .text) Product (E D.factor) (E D.term) Anything operation productOf products-end product-of (λ k w o e sp. (o, product-sign k w sp o e)) (λ w us p. tt) (λ xs x. term-of D.term (x .open-brackets) xs (x .value) (x .spelled) refl) (factor inner sc) factor-sole at h
+          chain-sole (sc .text) Product (E D.factor) (E D.term) Anything operation productOf products-end product-of (λ k w o e sp. (o, product-sign k w sp o e)) (λ w us p. tt) (λ xs x. term-of (x .open-brackets) xs (x .value) (x .spelled)) (factor inner sc) factor-sole at h
 
       pub expression-sole : Anywhere (E D.expression) AfterExpression (λ at. expression inner sc at)
       unfolding expression
       expression-sole at h =
-          chain-sole (sc .text) Sum (E D.term) (E D.expression) AfterTerm operation sumOf sums-end sum-of (λ k w o e sp. (o, sum-sign k w sp o e)) sum-ends (λ xs x. expression-of D.expression (x .open-brackets) xs (x .value) (x .spelled) refl) (term inner sc) term-sole at h
+          chain-sole (sc .text) Sum (E D.term) (E D.expression) AfterTerm operation sumOf sums-end sum-of (λ k w o e sp. (o, sum-sign k w sp o e)) sum-ends (λ xs x. expression-of (x .open-brackets) xs (x .value) (x .spelled)) (term inner sc) term-sole at h
 
     pub bracket-sole : (left : ℕ) → Inside (InRound names) (λ s n. bracket left sc s n)
     unfolding bracket is kindNumber productOf sumOf

@@ -129,7 +129,6 @@ module _ (names : List (List ℕ)) (good : AreNames names) where
       blocks : (k : Kind) (s n : ℕ) → (k ≡ ending → ⊥) → (us xs ys : Tokens) → Ahead k (normal (part text s n)) us → us ≡ xs ++ ys → Empty xs → Empty ys → ⊥
       blocks k s n ne us xs ys ah q l z =
           let y = ah .1 ne in
-          let r : normal (part text s n) ∷ y .0 ≡ [] = sym (y .1) ∙ (q ∙ (ap (λ (v : Tokens). v ++ ys) l ∙ z)) in
           let w : _≡_ {A = ℕ} 0 1 = cc in
           omega arith
 
@@ -212,7 +211,6 @@ begins-after text at n e w ts k place next h st sp q =
     let i = stands-in normally text at n w h st .1 in
     let j = spells-in normally text n e ts i sp in
     let m = token-at-moved text e k place next (j .1) q in
-    let b = st .is-token .some-bytes in
     omega (arith, j .0, m .0)
 
 same-before : (text : List ℕ) (place : ℕ) (k : Kind) (next end : ℕ) (k2 : Kind) (next2 end2 : ℕ) (at : ℕ) (ts us : Tokens) → at ≤ length text → Spells normal text at end ts → tokenAt text end ≡ token k place next → Spells normal text at end2 us → tokenAt text end2 ≡ token k2 place next2 → (ts ≡ us) × (end ≡ end2)

@@ -82,9 +82,6 @@ module _ (names : List (List ℕ)) where
   not-squares : (us : Tokens) → Closing (K D.condition) (bytes "]") us → K D.atom (bytes "~" ∷ bytes "[" ∷ us)
   not-squares us (ts, q, x) = rw q (record { open-brackets = suc (x .open-brackets); value = negated (x .value); spelled = not-square ts (x .value) (x .spelled) })
 
-  lift : {v u : Level} (ts : Tokens) (f : Expression → Expression) → ((l : ℕ) (e : Expression) → SpellsE names v l ts e → SpellsE names u l ts (f e)) → E v ts → E u ts
-  lift ts f g x = record { open-brackets = x .open-brackets; value = f (x .value); spelled = g (x .open-brackets) (x .value) (x .spelled) }
-
   -- the number 0 is an expression at each level; `0 = 0` is a condition
   abbrev pub zeros : Tokens
   zeros = bytes "0" ∷ []

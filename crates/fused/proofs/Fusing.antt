@@ -18,10 +18,9 @@ use Rattle.bytecode.proofs.RoundTrip.{one-next}
 use Rattle.bytecode.proofs.Soundness.{advance-small}
 use Rattle.arith.specs.Inner.Flags.{flagsOf}
 use Rattle.arith.proofs.Flags.{length-flags}
-use Rattle.checker.specs.Inner.Walk.{knownOf}
+use Rattle.checker.specs.Inner.Walk.{knownOf, initialWalk}
 use Rattle.checker.specs.declared.Verdict.{Verdict}
 use Rattle.checker.specs.declared.Verdict.the-variants as J
-use Rattle.checker.specs.Inner.Walk.{initialWalk}
 use Rattle.checker.specs.Results.{Judges}
 use Rattle.checker.proofs.Walking.{WalksTo, walks-here, walks-on, walks-step, judges-on, judges-complete, judges-missing, answers-whole, initial-small}
 use Rattle.machine.specs.declared.Registers.{Registers}

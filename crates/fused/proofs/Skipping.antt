@@ -12,7 +12,7 @@ use Rattle.arith.specs.Inner.Flags.{flagsOf}
 use Rattle.leb128.specs.Numbers.{got, numberAt, unzigzag}
 use Rattle.bytecode.specs.Instructions.{Instruction, constant, current, previous, operation, operationOf, instructionOf, hasOperand, decoded, fetchOne}
 use Rattle.bytecode.specs.Check.{Known, advance}
-use Rattle.bytecode.proofs.Codes.{operation-of}
+use Rattle.bytecode.proofs.Codes.{operation-of, no-operand}
 use Rattle.bytecode.proofs.Fetching.{fetch-alone, fetch-number, number-within}
 use Rattle.bytecode.proofs.RoundTrip.{one-next}
 use Rattle.checker.specs.declared.advance.Walk.{Walk}
@@ -23,7 +23,6 @@ use Rattle.checker.proofs.Bits.{join-low}
 use Rattle.checker.proofs.Steps.{operation-is, constant-is}
 use Rattle.checker.proofs.Stretching.{pushed-is, number-small, two-joined, previous-pushed, current-pushed}
 use Rattle.machine.specs.Step.{isPick}
-use Rattle.machine.proofs.Fetches.{no-operand}
 use Rattle.fused.specs.declared.Progress.{Progress}
 use Rattle.fused.specs.declared.Moved.{Moved}
 use Rattle.fused.specs.declared.Moved.the-variants as M

@@ -156,7 +156,6 @@ module _ (sc : Scope) (good : Named (sc .names)) where
   unfolding primary previousValueAt is kindNumber
   previous-reads l w i ei a n j g =
       let st = g .1 in
-      let lt = st .is-token .some-bytes in
       let u = part (sc .text) (st .start + 1) (g .0) in
       let at = at-kind normally (sc .text) T.previous (bytes "_" ++ w) (record { rest = w; is-cons = refl; is-name = spells-normal i w ei }) a (g .0) j st in
       let r = previous-name (sc .text) a T.previous (st .start) (g .0) j previous-end at refl in

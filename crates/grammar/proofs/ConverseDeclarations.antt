@@ -55,7 +55,6 @@ module _ (text : List ℕ) where
   pub name-reads : (names : List Name) (w : List ℕ) → IsName w → Apart w (spellings names) → length names < 64 → (a n : ℕ) → a ≤ length text → Stands asWritten text a n w → newName text names a ≡ accepted w n
   unfolding newName overLong is kindNumber
   name-reads names w nm apart room a n h st =
-      let short = nm .short in
       let mv = token-at-moved text a (st .kind) (st .start) n h (is-read st) in
       let lw : length w ≡ n - st .start = sym (ap length (st .spelled)) ∙ part-length text (st .start) n (mv .1) (mv .2) in
       rw (name-at written text w nm a n h st, st .spelled, apart-new (spellings names) w apart, le-ltb 16 (n - st .start) (omega arith), lt-ltb (length names) nameLimit room)

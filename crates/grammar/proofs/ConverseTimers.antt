@@ -59,7 +59,6 @@ module _ (text : List ℕ) (inputs : ℕ) (base : List Name) where
   watched-reads : (names extra : List Name) → names ≡ base ++ extra → Named (spellings names) → (w : List ℕ) (i : ℕ) → IsName w → getElem? (normals (spellings base)) i ≡ some (normal w) → isWatchable inputs (length base) names i ≡ true → (a n : ℕ) → a ≤ length text → Stands asWritten text a n w → watchedAt text inputs (length base) names a ≡ accepted i n
   unfolding watchedAt withId overLong is kindNumber
   watched-reads names extra same good w i nm at watchable a n h st =
-      let short = nm .short in
       let mv = token-at-moved text a (st .kind) (st .start) n h (is-read st) in
       let lw : length w ≡ n - st .start = sym (ap length (st .spelled)) ∙ part-length text (st .start) n (mv .1) (mv .2) in
       let all : getElem? (normals (spellings names)) i ≡ some (normal w) =

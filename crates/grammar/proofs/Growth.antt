@@ -78,7 +78,6 @@ token-bytes (b ∷ l) h = refl
 stands-bytes : (v : View) (text : List ℕ) (a n : ℕ) (w : List ℕ) → a ≤ length text → Stands (v .see) text a n w → suc (laterBytes w) + a ≤ n
 stands-bytes v text a n w h st =
     let mv = token-at-moved text a (st .kind) (st .start) n h (is-read st) in
-    let some = st .is-token .some-bytes in
     let l : length w ≡ n - st .start = subst (λ (x : List ℕ). length x ≡ n - st .start) (st .spelled) (v .sized (part text (st .start) n) ∙ part-length text (st .start) n (mv .1) (mv .2)) in
     omega (arith, l, mv .0, token-bytes w (omega (arith, l)))
 

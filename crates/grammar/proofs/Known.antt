@@ -12,6 +12,8 @@ use borrow.Author.Tests.{eqb-true, eqb-false, ltb-true, ltb-false, lt-ltb, le-lt
 use Rattle.semantics.specs.Program.{Rule, Timer, target, knownFirst, allTrue, timersKnown, OrderedRules}
 use Rattle.semantics.proofs.Reference.{length-known}
 use Rattle.semantics.proofs.Cells.{known-length}
+use Rattle.bytecode.proofs.SmallOperands.{known-inside}
+use Rattle.lexer.proofs.Laws.{choice-itself}
 
 -- what is known after rules, each of which makes its variable and the timers of that known
 abbrev pub knownAfter : List Timer → List Bool → List Rule → List Bool
@@ -33,10 +35,6 @@ abbrev pub hasRule : List Timer → List Rule → ℕ → Bool
 hasRule ts [] v = false
 hasRule ts (r ∷ rs) v = cond (eqb v (target r)) true (cond (isTimerOf ts (target r) v) true (hasRule ts rs v))
 
-or-false : (t : Bool) → t ≡ cond t true false
-or-false true = refl
-or-false false = refl
-
 or-true : (t : Bool) → true ≡ cond t true true
 or-true true = refl
 or-true false = refl
@@ -46,7 +44,7 @@ or-or true u v = refl
 or-or false u v = refl
 
 timers-more : (w : ℕ) (ts : List Timer) (known : List Bool) (v : ℕ) → v < length known → getD (timersKnown w ts known) v false ≡ cond (getD known v false) true (isTimerOf ts w v)
-timers-more w [] known v h = or-false (getD known v false)
+timers-more w [] known v h = sym (choice-itself (getD known v false))
 timers-more w (x ∷ xs) known v h = go (eqb (x .watched) w) (eqb (x .id) v) refl (timers-more w xs (set known (x .id) true) v (simp length-set h)) (timers-more w xs known v h)
   where
     go : (b c : Bool) → eqb (x .id) v ≡ c → getD (timersKnown w xs (set known (x .id) true)) v false ≡ cond (getD (set known (x .id) true) v false) true (isTimerOf xs w v) → getD (timersKnown w xs known) v false ≡ cond (getD known v false) true (isTimerOf xs w v)
@@ -54,11 +52,6 @@ timers-more w (x ∷ xs) known v h = go (eqb (x .watched) w) (eqb (x .id) v) ref
     go true true e set-more more = let q : x .id ≡ v = eqb-true (x .id) v e in set-more ∙ rw (q, getD-set-same known v true false h) (or-true (getD known v false))
     go true false e set-more more = set-more ∙ rw (getD-set-other known (x .id) v true false (λ z. eqb-false (x .id) v e (sym z)))
     go false c e set-more more = more
-
-known-inside : (known : List Bool) (i : ℕ) → getD known i false ≡ true → i < length known
-known-inside [] i e = let z : _≡_ {A = ℕ} 0 1 = cc in absurd (omega arith)
-known-inside (b ∷ l) zero e = omega arith
-known-inside (b ∷ l) (suc i) e = omega (arith, known-inside l i e)
 
 -- after a rule of v, v is known, and what was known still is
 pub ruled-known : (ts : List Timer) (known : List Bool) (v : ℕ) → v < length known → getD (timersKnown v ts (set known v true)) v false ≡ true
@@ -72,7 +65,7 @@ known-stays ts known v i e = let h = known-inside known i e in timers-more v ts 
     kept false q = getD-set-other known v i true false (eqb-false i v q) ∙ e
 
 known-more : (ts : List Timer) (known : List Bool) (rs : List Rule) (v : ℕ) → v < length known → getD (knownAfter ts known rs) v false ≡ cond (getD known v false) true (hasRule ts rs v)
-known-more ts known [] v h = or-false (getD known v false)
+known-more ts known [] v h = sym (choice-itself (getD known v false))
 known-more ts known (r ∷ rs) v h =
     let first = set known (target r) true in
     let l : v < length first = simp length-set h in

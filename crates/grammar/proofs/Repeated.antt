@@ -34,7 +34,6 @@ module _ (text : List ℕ) where
     stands-twice : (t : List ℕ) (i n : ℕ) → i ≤ last → n ≤ f + last + 1 → Stands normal text (f + i) n t → Stands normal text (g + i) (there n) t
     stands-twice t i n h m st =
         let mv = token-at-moved text (f + i) (st .kind) (st .start) n (omega arith) (is-read st) in
-        let lt = st .is-token .some-bytes in
         let es : f + (st .start - f) ≡ st .start = omega (arith, mv .0) in
         let en : f + (n - f) ≡ n = omega (arith, mv .0) in
         stands-read normally text (g + i) (st .kind) (there (st .start)) (there n) (omega arith) (omega (arith, mv .0))

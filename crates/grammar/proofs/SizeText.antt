@@ -2,7 +2,7 @@
 -- Assumes nothing.
 use mathlib.Core.Path.{_≡_, refl, ap, sym, _∙_, subst}
 use mathlib.Core.List.{List, [], _∷_, _++_, append-assoc}
-use mathlib.Core.Bool.{Bool, true, false, cond}
+use mathlib.Core.Bool.{Bool, true, false, cond, true≢false}
 use Prim.Native.Nat.{ℕ, zero, suc, _+_, _-_, _*_, _≤_, _<_}
 use native.Mathlib.Omega.{arith}
 use lib.ListN.{length, getD, set, length-append, length-map}
@@ -68,9 +68,6 @@ other-bytes : (v : ℕ) (x : Timer) (xs : List Timer) → eqb (x .watched) v ≡
 unfolding bytesT
 other-bytes v x xs e = rw e
 
-differ : {A : Type 0} → true ≡ false → A
-differ y = let z : _≡_ {A = ℕ} 0 1 = cc in absurd (omega arith)
-
 -- a timer is written once, after the rule of its variable
 module _ (v : ℕ) (known after : List Bool) (new : getD known v false ≡ false) (now : getD after v false ≡ true) (stays : (i : ℕ) → getD known i false ≡ true → getD after i false ≡ true) where
   pub timers-once : (ts : List Timer) → length (bytesT v ts) + waitingBytes after ts ≤ waitingBytes known ts
@@ -79,10 +76,10 @@ module _ (v : ℕ) (known after : List Bool) (new : getD known v false ≡ false
     where
       go : length (bytesT v xs) + waitingBytes after xs ≤ waitingBytes known xs → (b : Bool) → eqb (x .watched) v ≡ b → (t : Bool) → getD known (x .watched) false ≡ t → (u : Bool) → getD after (x .watched) false ≡ u → length (bytesT v (x ∷ xs)) + (cond u 0 (timerBytes x) + waitingBytes after xs) ≤ cond t 0 (timerBytes x) + waitingBytes known xs
       go ih true e false t true u = omega (arith, one-bytes v x xs e, ih)
-      go ih true e true t u w = let q = eqb-true (x .watched) v e in differ (sym t ∙ subst (λ (i : ℕ). getD known i false ≡ false) (sym q) new)
-      go ih true e false t false w = let q = eqb-true (x .watched) v e in differ (sym (subst (λ (i : ℕ). getD after i false ≡ true) (sym q) now) ∙ w)
+      go ih true e true t u w = let q = eqb-true (x .watched) v e in absurd (true≢false (sym t ∙ subst (λ (i : ℕ). getD known i false ≡ false) (sym q) new))
+      go ih true e false t false w = let q = eqb-true (x .watched) v e in absurd (true≢false (sym (subst (λ (i : ℕ). getD after i false ≡ true) (sym q) now) ∙ w))
       go ih false e true t true u = omega (arith, other-bytes v x xs e, ih)
-      go ih false e true t false u = differ (sym (stays (x .watched) t) ∙ u)
+      go ih false e true t false u = absurd (true≢false (sym (stays (x .watched) t) ∙ u))
       go ih false e false t true u = omega (arith, other-bytes v x xs e, ih)
       go ih false e false t false u = omega (arith, other-bytes v x xs e, ih)
 

@@ -125,7 +125,6 @@ module _ (v : View) (text : List ℕ) where
 
   pub stands-in : (a n : ℕ) (w : List ℕ) → a ≤ length text → Stands (v .see) text a n w → (a < n) × (n ≤ length text)
   stands-in a n w h st =
-      let some = st .is-token .some-bytes in
       (omega (arith, st .separated .ordered), st .is-token .within)
 
   -- tokens stand within the text

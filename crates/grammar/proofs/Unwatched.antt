@@ -54,7 +54,6 @@ module _ (text : List ℕ) (cut : ℕ) (within : cut ≤ length text) where
   spells-kept v a b (w ∷ ws) h l (n, st, g) =
       let i = stands-in v text a n w h st .1 in
       let j = spells-in v text n b ws i g .0 in
-      let some = st .is-token .some-bytes in
       let kept : Stands (v .see) front a n w = record {
         kind = st .kind;
         start = st .start;

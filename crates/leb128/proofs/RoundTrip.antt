@@ -2,15 +2,15 @@
 use mathlib.Core.Path.{_≡_, refl, sym, ap, subst, _∙_}
 use mathlib.Core.Bool.{Bool, true, false, cond}
 use mathlib.Core.Logic.{⊎-elim}
-use mathlib.Core.List.{List, [], _∷_, _++_, append-assoc}
+use mathlib.Core.List.{List, [], _∷_, _++_}
 use Prim.Native.Nat.{ℕ, zero, suc, _+_, _*_, _-_, _/_, _%_, _^_, _≤_, _<_}
 use native.Mathlib.Nat.{pow-le-pow-right}
 use native.Mathlib.Numerals.{add-one}
 use native.Mathlib.Omega.{arith}
 use lib.Dec.{T, leb, ltb, lit<}
 use lib.IntN.{ℤ}
-use lib.ListN.{length, take, drop, set, take-append-drop}
-use lib.Seq.{sets, sets-eq, drop-at, drop-drop, drop-append-seam, length-take-le, getD-drop}
+use lib.ListN.{length, take, drop, take-append-drop}
+use lib.Seq.{drop-drop, drop-append-seam, getD-drop}
 use borrow.Author.Tests.{lt-ltb, le-ltb, leb-true, leb-false, ltb-true, ltb-false}
 use Rattle.leb128.specs.Numbers.{groups, number, Found, found, none, grouped, numberIn, got, nothing, below32, numberAt, zigzag, signedAt}
 use Rattle.arith.specs.Values.{isInt32}
@@ -75,18 +75,6 @@ spelled (b ∷ s) h =
 pub shortest : (s : List ℕ) (v k : ℕ) → Bytes s → numberIn s ≡ found v k → k ≤ 5 → number v ≡ take k s
 unfolding number
 shortest s v k h e g = subst (Spelled s) e (spelled s h) 4 g
-
--- ---- two runs of stores, one behind the other, are one run
-pub sets-join : {A : Type 0} (l : List A) (i : ℕ) (a b : List A) → sets (sets l i a) (i + length a) b ≡ sets l i (a ++ b)
-sets-join l i [] b = ap (λ (k : ℕ). sets l k b) (omega arith)
-sets-join l i (x ∷ a) b = ap (λ (k : ℕ). sets (sets (set l i x) (suc i) a) k b) (omega arith) ∙ sets-join (set l i x) (suc i) a b
-
--- ---- what `put` wrote where there was room, `number` reads
-pub written : (out : List ℕ) (at n : ℕ) → n < 2 ^ 32 → at + length (number n) ≤ length out → numberAt (sets out at (number n)) at ≡ got n (at + length (number n))
-unfolding numberAt below32
-written out at n h room =
-    let front : drop at (take at out ++ (number n ++ drop (at + length (number n)) out)) ≡ number n ++ drop (at + length (number n)) out = drop-at (take at out) _ at (length-take-le at out (omega arith)) in
-    rw (sets-eq (number n) out at room, append-assoc, front, round-trip n (drop (at + length (number n)) out) (omega arith), lt-ltb n (2 ^ 32) h)
 
 -- ---- numbers at a place of an image
 

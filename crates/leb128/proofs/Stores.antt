@@ -2,12 +2,13 @@
 use mathlib.Core.Path.{_≡_, refl, sym, ap, _∙_}
 use mathlib.Core.Bool.{Bool, true, false}
 use mathlib.Core.List.{List, [], _∷_, _++_}
-use Prim.Native.Nat.{ℕ, suc, _+_, _≤_, _<_, min}
+use Prim.Native.Nat.{ℕ, suc, _+_, _≤_, _<_, min, zero, _-_}
 use native.Mathlib.Omega.{arith}
 use lib.Dec.{leb}
-use lib.ListN.{length, take, drop, set}
-use lib.Seq.{sets, sets-eq, set-out, set-comm, take-at}
+use lib.ListN.{length, take, drop, set, length-drop}
+use lib.Seq.{sets, sets-eq, set-out, set-comm, take-at, take-nil, drop-nil, take-all}
 use borrow.Author.Tests.{leb-true, leb-false}
+use native.Mathlib.Nat.{min-zero, zero-min, suc-min-suc}
 
 module _ {A : Type 0} where
   -- past the end nothing is stored
@@ -25,6 +26,20 @@ module _ {A : Type 0} where
     by : (t : Bool) → (t ≡ true → i ≤ length l) → (t ≡ false → length l < i) → sets l (min i (length l)) vs ≡ sets l i vs
     by true y n = let h = y refl in ap (λ (k : ℕ). sets l k vs) (omega arith)
     by false y n = let h = n refl in sets-past l (min i (length l)) vs (omega arith) ∙ sym (sets-past l i vs (omega arith))
+
+  pub take-clip : (n : ℕ) (l : List A) → take (min n (length l)) l ≡ take n l
+  take-clip n [] = rw (min-zero n) (sym (take-nil n))
+  take-clip zero (x ∷ l) = rw (zero-min (suc (length l)))
+  take-clip (suc n) (x ∷ l) = rw (suc-min-suc n (length l)) (ap (λ r. x ∷ r) (take-clip n l))
+
+  pub drop-clip : (n : ℕ) (l : List A) → drop (min n (length l)) l ≡ drop n l
+  drop-clip n [] = rw (min-zero n) (sym (drop-nil n))
+  drop-clip zero (x ∷ l) = rw (zero-min (suc (length l)))
+  drop-clip (suc n) (x ∷ l) = rw (suc-min-suc n (length l)) (drop-clip n l)
+
+  -- the rest of a list behind a place
+  pub rest-of : (l : List A) (place : ℕ) → take (length l - place) (drop place l) ≡ drop place l
+  rest-of l place = take-all (length l - place) (drop place l) (omega (arith, length-drop place l))
 
   -- a run from the start of a list that has room for it, and what is then found there
   pub sets-front : (l xs : List A) → length xs ≤ length l → sets l 0 xs ≡ xs ++ drop (length xs) l

@@ -99,9 +99,6 @@ module _ (w : Kind) (k : ℕ) (e : k ≡ kindNumber w) where
   unfolding is kindNumber
   is-known f = ne-eqb _ _ (λ z. f (e ∙ z))
 
-  pub numbered : kindOf k ≡ w
-  numbered = ap kindOf e ∙ number-kind w
-
 -- a number of a known kind lies between 1 and the last
 pub known-number : (k : ℕ) → is (kindOf k) unknown ≡ false → (1 ≤ k) × (k ≤ lastKind)
 unfolding is kindNumber kindOf

@@ -111,7 +111,7 @@ token-known text at =
 
 -- ---- where a token stands
 
-token-beyond : (text : List ℕ) (at : ℕ) → length text ≤ at → tokenAt text at ≡ token ending at at
+pub token-beyond : (text : List ℕ) (at : ℕ) → length text ≤ at → tokenAt text at ≡ token ending at at
 unfolding tokenAt tokenPast
 token-beyond text at h = rw (run-out isSpace text at h, le-ltb _ _ h)
 

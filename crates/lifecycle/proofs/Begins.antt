@@ -6,12 +6,11 @@ use mathlib.Core.List.{List}
 use lib.IntN.{ℤ}
 use lib.ListN.{length, take, length-drop}
 use borrow.Author.Tests.{eq-eqb, ne-eqb}
-use Rattle.before.specs.Before.{beforeCode, mayScan}
+use Rattle.before.specs.Before.{beforeCode}
 use Rattle.limits.specs.Limits.{imageLimit, nameLimit, pausedLength}
-use Rattle.limits.specs.Answer.{Answer, accepted, refused}
+use Rattle.limits.specs.Answer.{accepted, refused}
 use Rattle.semantics.specs.Formula.{State}
 use Rattle.semantics.specs.Shape.{nameCount, timersOf}
-use Rattle.bytecode.specs.Check.{checkOf}
 use Rattle.bytecode.specs.Parts.{headerOf, codeOf, shapeIn}
 use Rattle.bytecode.proofs.Walk.{check-sound}
 use Rattle.bytecode.proofs.SoundHeader.{header-is}
@@ -22,6 +21,7 @@ use Rattle.paused.specs.Memory.{rowPlace, slice, checkpointOf, bitsOf, waitingL
 use Rattle.resumable.specs.Instalment.{afterCall}
 use Rattle.lifecycle.specs.Calls.{rowTaken, beginOf}
 use Rattle.before.specs.Inner.Known.{Begun}
+use Rattle.before.proofs.Begins.{tests-sound}
 use Rattle.paused.proofs.Clipped.{clipped-most}
 use Rattle.paused.proofs.Bits.{bits-flags}
 use Rattle.lifecycle.specs.Inner.Parts.{keptStart, layoutWith}
@@ -31,21 +31,12 @@ pub waiting-most : (cells : List ℤ) → waitingLength cells ≤ 65
 unfolding waitingLength
 waiting-most cells = clipped-most cells 13 65
 
--- an image that passes the tests is sound, no longer than allowed, and has no more names
-image-sound : (image : List ℕ) (s : State) (row : List ℤ) → accepted tt ≡ beforeCode image s row → checkOf image ≡ accepted tt
-unfolding beforeCode
-image-sound image s row e = checked (checkOf image) refl (sym e)
-  where
-    checked : (a : Answer (Unit {0})) → checkOf image ≡ a → mayScan a (shapeIn image) s row ≡ accepted tt → checkOf image ≡ accepted tt
-    checked (accepted tt) k q = k
-    checked (refused n p) k q = absurd (let z : _≡_ {A = ℕ} 0 1 = cc in omega arith)
-
 pub image-short : (image : List ℕ) (s : State) (row : List ℤ) → accepted tt ≡ beforeCode image s row → length image ≤ imageLimit
-image-short image s row e = check-sound image (image-sound image s row e) .short
+image-short image s row e = check-sound image (tests-sound image s row e) .short
 
 pub image-few : (image : List ℕ) (s : State) (row : List ℤ) → accepted tt ≡ beforeCode image s row → nameCount (shapeIn image) ≤ nameLimit
 image-few image s row e =
-    let y = check-sound image (image-sound image s row e) in
+    let y = check-sound image (tests-sound image s row e) in
     rw (header-is image y) (y .fits .few)
 
 pub some-row : (w : ℕ) → (w ≡ 0 → ⊥) → w ≡ suc (15 + w - 16)

@@ -3,33 +3,26 @@ use Prim.Native.Nat.{ℕ, suc, _+_, _≤_, _<_}
 use native.Mathlib.Omega.{arith}
 use native.Mathlib.Numerals.{add-one}
 use mathlib.Core.Path.{_≡_, refl, sym, ap, _∙_}
-use mathlib.Core.Bool.{Bool, true, false, _&&_}
+use mathlib.Core.Bool.{true, false, _&&_, and-false}
 use mathlib.Core.List.{List, [], _∷_}
 use lib.IntN.{ℤ, pos}
 use lib.ListN.{length, getD, drop}
 use lib.Seq.{drop-cons, drop-length}
 use Rattle.arith.specs.Values.{eqZ}
+use Rattle.arith.proofs.Basics.{and-both}
 use Rattle.lifecycle.specs.Calls.{sameValues}
-
-both-false : (b : Bool) → (b && false) ≡ false
-both-false true = refl
-both-false false = refl
 
 pub differ-long : (a b : List ℤ) → (length a ≡ length b → ⊥) → sameValues a b ≡ false
 differ-long [] [] h = absurd (h refl)
 differ-long [] (y ∷ b) h = refl
 differ-long (x ∷ a) [] h = refl
-differ-long (x ∷ a) (y ∷ b) h = rw (differ-long a b (λ e. h (omega arith))) (both-false (eqZ x y))
-
-both-right : (a b : Bool) → (a && b) ≡ true → b ≡ true
-both-right true b e = e
-both-right false b e = absurd (let z : _≡_ {A = ℕ} 0 1 = cc in omega arith)
+differ-long (x ∷ a) (y ∷ b) h = rw (differ-long a b (λ e. h (omega arith))) (and-false (eqZ x y))
 
 pub same-long : (a b : List ℤ) → sameValues a b ≡ true → length a ≡ length b
 same-long [] [] e = refl
 same-long [] (y ∷ b) e = absurd (let z : _≡_ {A = ℕ} 0 1 = cc in omega arith)
 same-long (x ∷ a) [] e = absurd (let z : _≡_ {A = ℕ} 0 1 = cc in omega arith)
-same-long (x ∷ a) (y ∷ b) e = ap suc (same-long a b (both-right (eqZ x y) (sameValues a b) e))
+same-long (x ∷ a) (y ∷ b) e = ap suc (same-long a b (and-both (eqZ x y) (sameValues a b) e .1))
 
 -- the first i values are the same
 pub record Comparing (a b : List ℤ) (i : ℕ) : Type 0 where

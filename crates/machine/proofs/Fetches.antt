@@ -10,16 +10,12 @@ use lib.ListN.{length, getD}
 use borrow.Author.Tests.{le-leb, lt-leb, eq-eqb, ne-eqb}
 use Rattle.leb128.specs.Numbers.{Read, got, nothing, numberAt, unzigzag}
 use Rattle.leb128.proofs.Laws.{one-group}
-use Rattle.bytecode.specs.Instructions.{Instruction, constant, operation, comparison, operationOf, comparisonOf, instructionOf, hasOperand, decoded, fetchOne, fetch}
-use Rattle.bytecode.proofs.Codes.{operation-of, comparison-of}
+use Rattle.bytecode.specs.Instructions.{Instruction, constant, comparison, comparisonOf, instructionOf, hasOperand, decoded, fetchOne, fetch}
+use Rattle.bytecode.proofs.Codes.{comparison-of, no-operand}
 use Rattle.bytecode.proofs.Fetching.{fetch-alone, fetch-number, fetch-malformed, fetch-other, timer-unfetched}
 use Rattle.bytecode.proofs.Timeless.{code-timeless, timeless-one}
 
 -- ---- which codes have an operand
-
-pub no-operand : (code : ℕ) → 4 ≤ code → code < 20 → hasOperand code ≡ false
-unfolding hasOperand
-no-operand code l h = rw (le-leb 1 code (omega arith), lt-leb code 3 (omega arith), lt-leb 20 code h, lt-leb 24 code (omega arith))
 
 pub low-operand : (code : ℕ) → 1 ≤ code → code ≤ 3 → hasOperand code ≡ true
 unfolding hasOperand
@@ -102,9 +98,3 @@ module _ (code : List ℕ) (at : ℕ) where
       let q : at + 4 + 1 ≡ at + 5 = omega arith in
       let has : hasOperand (getD code (at + 4) 0) ≡ false = no-operand (getD code (at + 4) 0) (omega arith) (omega arith) in
       rw q at (lone-fetch code (at + 4) (getD code (at + 4) 0) refl (comparison (comparisonOf (getD code (at + 4) 0))) l has (comparison-of (getD code (at + 4) 0) 0 a z))
-
-  pub operation-third : at + 2 < length code → 4 ≤ getD code (at + 2) 0 → getD code (at + 2) 0 ≤ 8 → fetchOne code (at + 2) ≡ got (operation (operationOf (getD code (at + 2) 0))) (at + 3)
-  operation-third l a z =
-      let q : at + 2 + 1 ≡ at + 3 = omega arith in
-      let has : hasOperand (getD code (at + 2) 0) ≡ false = no-operand (getD code (at + 2) 0) a (omega arith) in
-      rw q at (lone-fetch code (at + 2) (getD code (at + 2) 0) refl (operation (operationOf (getD code (at + 2) 0))) l has (operation-of (getD code (at + 2) 0) 0 a z))

@@ -1,7 +1,7 @@
 -- Values tested against their ranges one by one. Assumes nothing.
-use mathlib.Core.Path.{_≡_, refl, sym, _∙_}
+use mathlib.Core.Path.{_≡_, sym, _∙_}
 use mathlib.Core.Bool.{true, false, _&&_}
-use mathlib.Core.List.{List, [], _∷_}
+use mathlib.Core.List.{List, []}
 use Prim.Native.Nat.{ℕ, _+_, _≤_, _<_}
 use native.Mathlib.Omega.{arith}
 use native.Mathlib.Numerals.{add-one}
@@ -12,6 +12,7 @@ use lib.Signed.{leZ}
 use Rattle.semantics.specs.Program.{Range, noRange}
 use Rattle.semantics.specs.Formula.{at}
 use Rattle.semantics.specs.Shape.{allWithin}
+use Rattle.semantics.proofs.Counted.{within-nil}
 use Rattle.machine.specs.Inner.Memory.{RangesIn}
 use Rattle.machine.proofs.Changes.{names-length, range-at}
 
@@ -20,16 +21,12 @@ pub record Testing (low high values : List ℤ) (i : ℕ) : Type 0 where
   pub among : i ≤ length values
   pub goes : (ns : List Range) → RangesIn ns low high → allWithin ns values ≡ allWithin (drop i ns) (drop i values)
 
-none-left : (ns : List Range) → allWithin ns [] ≡ true
-none-left [] = refl
-none-left (n ∷ ns) = refl
-
 module _ {low high values : List ℤ} {i : ℕ} (t : Testing low high values i) where
   pub testing-ends : length values ≤ i → (ns : List Range) → RangesIn ns low high → true ≡ allWithin ns values
   testing-ends h ns r =
       let e : i ≡ length values = omega (arith, t .among) in
       let q : drop i values ≡ [] = rw e (drop-length values) in
-      sym (t .goes ns r ∙ rw q (none-left (drop i ns)))
+      sym (t .goes ns r ∙ rw q (within-nil (drop i ns)))
 
   module _ (h : i < length values) (k : length values ≤ length low) where
     -- the value at hand decides

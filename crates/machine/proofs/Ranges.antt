@@ -15,7 +15,8 @@ use Rattle.semantics.specs.ReferenceScan.{ranged, moves, stays, picked}
 use Rattle.arith.proofs.Basics.{Bound, bound, unbind, passed}
 use Rattle.semantics.proofs.Unique.{allWithin-at, allWithin-set, elapsed-within, due-within}
 use Rattle.bytecode.specs.Instructions.{Instruction, constant, current, previous, operation, negate, comparison, negated, both, either, gate, pick, assign, settle, timer}
-use Rattle.bytecode.specs.Signature.{Role, pushes, computes, tests, opens, picks, lets, settles, times, signature}
+use Rattle.bytecode.specs.Signature.{Role, signature}
+use Rattle.bytecode.proofs.Timeless.{OfTimer}
 use Rattle.machine.specs.Step.{Machine, machine, yes, push, pop, gated, settled, perform, step}
 
 abbrev pub currentOf : Machine → State
@@ -69,17 +70,13 @@ module _ (ns : Setting) (s : State) (old : Within (ns .ranges) s) where
       go (bound y p q) = ranged-within v y z q
 
   -- a timer's cells have the ranges that its work keeps
-  abbrev pub FitIn : Role → Type 0
-  FitIn (pushes fits) = Unit {0}
-  FitIn computes = Unit {0}
-  FitIn tests = Unit {0}
-  FitIn opens = Unit {0}
-  FitIn (picks side v) = Unit {0}
-  FitIn (lets v) = Unit {0}
-  FitIn (settles v) = Unit {0}
-  FitIn (times t w n) = (rangeAt (ns .ranges) (timePlace (ns .timers) t) ≡ timeRange n) × (rangeAt (ns .ranges) t ≡ bitRange)
+  abbrev pub Fit : ℕ → ℕ → ℕ → Type 0
+  Fit t w n = (rangeAt (ns .ranges) (timePlace (ns .timers) t) ≡ timeRange n) × (rangeAt (ns .ranges) t ≡ bitRange)
 
-  timer-within : (t w n : ℕ) → FitIn (times t w n) → (u : State) → Within (ns .ranges) u → Within (ns .ranges) (timed ns s (record { id = t; watched = w; limit = n }) u)
+  abbrev pub FitIn : Role → Type 0
+  FitIn r = OfTimer Fit r
+
+  timer-within : (t w n : ℕ) → Fit t w n → (u : State) → Within (ns .ranges) u → Within (ns .ranges) (timed ns s (record { id = t; watched = w; limit = n }) u)
   unfolding timed
   timer-within t w n fit u h =
       let now = at u w in

@@ -21,7 +21,7 @@ use Rattle.arith.proofs.Basics.{T-true, and-left, and-right, ok≢refusal}
 use Rattle.bytecode.specs.Instructions.{Instruction, constant, current, previous, operation, negate, comparison, negated, both, either, gate, pick, assign, settle, timer}
 use Rattle.bytecode.specs.Signature.{Sort, Role, pushes, computes, tests, opens, picks, lets, settles, times, signature}
 use Rattle.bytecode.specs.Check.{Picks, Known, known, one, empty, unset, closed, fresh, opened, admits, advance}
-use Rattle.bytecode.proofs.Timeless.{TimelessIn}
+use Rattle.bytecode.proofs.Timeless.{TimelessIn, OfTimer, of-timer}
 use Rattle.bytecode.proofs.Soundness.{some-inj, none≢some, guard-some, idsOf, known-inside, third}
 use Rattle.bytecode.proofs.Exactly.{taking-shape}
 use Rattle.machine.specs.Step.{Machine, machine, bit, yes, push, pop, gated, settled, endsPassing, isPick, declared, perform, step}
@@ -169,25 +169,14 @@ module _ (ns : Setting) (s : State) where
   declared-kept i o d l h = rw (lt-ltb i (length (ns .ranges)) l) h
 
   -- the numbers that a 23 works on are there, and N keeps its limit
+  abbrev pub Stands : ℕ → ℕ → ℕ → Type 0
+  Stands t w n = (t < length (ns .ranges)) × (w < length (ns .ranges)) × (timePlace (ns .timers) t < length (ns .ranges)) × (n ≤ timeLimit)
+
   abbrev pub StandsIn : Role → Type 0
-  StandsIn (pushes fits) = Unit {0}
-  StandsIn computes = Unit {0}
-  StandsIn tests = Unit {0}
-  StandsIn opens = Unit {0}
-  StandsIn (picks side v) = Unit {0}
-  StandsIn (lets v) = Unit {0}
-  StandsIn (settles v) = Unit {0}
-  StandsIn (times t w n) = (t < length (ns .ranges)) × (w < length (ns .ranges)) × (timePlace (ns .timers) t < length (ns .ranges)) × (n ≤ timeLimit)
+  StandsIn r = OfTimer Stands r
 
   pub timeless-stands : (r : Role) → TimelessIn r → StandsIn r
-  timeless-stands (pushes fits) h = tt
-  timeless-stands computes h = tt
-  timeless-stands tests h = tt
-  timeless-stands opens h = tt
-  timeless-stands (picks side v) h = tt
-  timeless-stands (lets v) h = tt
-  timeless-stands (settles v) h = tt
-  timeless-stands (times t w n) h = absurd h
+  timeless-stands r h = of-timer (λ t w n. ⊥) Stands (λ t w n x. absurd x) r h
 
   module _ (ids : List Bool) (size : length ids ≤ length (ns .ranges)) where
     unset-declared : (v : ℕ) → T (unset ids v) → v < length (ns .ranges)

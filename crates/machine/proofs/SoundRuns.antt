@@ -18,7 +18,7 @@ use Rattle.semantics.proofs.Counted.{state-length, cell-time}
 use Rattle.semantics.proofs.Reference.{length-known}
 use Rattle.semantics.proofs.Timers.{times-append}
 use Rattle.bytecode.specs.Instructions.{Instruction, constant, current, previous, operation, negate, comparison, negated, both, either, gate, pick, assign, settle, timer}
-use Rattle.bytecode.specs.Signature.{Role, pushes, computes, tests, opens, picks, lets, settles, times, signature}
+use Rattle.bytecode.specs.Signature.{Role, signature}
 use Rattle.bytecode.specs.Check.{Known, advance, suits, checkCode, atStart, checkBody, checkOf}
 use Rattle.bytecode.specs.Parts.{headerOf, codeOf, limitIn, limitsFrom, limitsOf, shapeIn}
 use Rattle.bytecode.proofs.Soundness.{idsOf}
@@ -28,10 +28,11 @@ use Rattle.bytecode.proofs.SoundHeader.{header-is}
 use Rattle.bytecode.proofs.TimerPlaces.{timer-range}
 use Rattle.bytecode.proofs.Limits.{limits-length}
 use Rattle.bytecode.proofs.SoundLimits.{suits-own, Limited, limited-begins, limited-next, ids-kept, timer-named, timer-limit}
+use Rattle.bytecode.proofs.Timeless.{OfTimer, of-timer}
 use Rattle.machine.specs.Step.{Machine, machine, step}
 use Rattle.machine.specs.Runs.{Ran, afterStep, run}
-use Rattle.machine.proofs.Refusals.{RefusedByRules, Kept, StandsIn, step-keeps}
-use Rattle.machine.proofs.Ranges.{Within, AllWithin, FitIn, step-within}
+use Rattle.machine.proofs.Refusals.{RefusedByRules, Kept, StandsIn, step-keeps, Stands}
+use Rattle.machine.proofs.Ranges.{Within, AllWithin, FitIn, step-within, Fit}
 
 -- ---- where a timer of sound code works
 
@@ -45,14 +46,7 @@ pub record Timely (k : Shape) (t w n : ℕ) : Type 0 where
   pub own : rangeAt (k .ranges) t ≡ bitRange
 
 abbrev pub TimelyIn : Shape → Role → Type 0
-TimelyIn k (pushes fits) = Unit {0}
-TimelyIn k computes = Unit {0}
-TimelyIn k tests = Unit {0}
-TimelyIn k opens = Unit {0}
-TimelyIn k (picks side v) = Unit {0}
-TimelyIn k (lets v) = Unit {0}
-TimelyIn k (settles v) = Unit {0}
-TimelyIn k (times t w n) = Timely k t w n
+TimelyIn k r = OfTimer (Timely k) r
 
 -- fewer timers stand before one than there are
 count-before : (ls : List ℕ) (t : ℕ) → 1 ≤ getD ls t 0 → countTrue (take t (map isLimit ls)) < countTrue (map isLimit ls)
@@ -70,27 +64,13 @@ module _ (k : Shape) (even : length (k .limits) ≡ length (k .ranges)) (row : L
   cell-name i h = ap (λ (l : List Range). rangeAt l i) (times-append (k .ranges) (timeRanges (k .limits))) ∙ List·getD-append (k .ranges) (timeRanges (k .limits)) noRange i h
 
   timely-stands : (r : Role) → TimelyIn k r → StandsIn (settingOf k row) s r
-  timely-stands (pushes fits) x = tt
-  timely-stands computes x = tt
-  timely-stands tests x = tt
-  timely-stands opens x = tt
-  timely-stands (picks side v) x = tt
-  timely-stands (lets v) x = tt
-  timely-stands (settles v) x = tt
-  timely-stands (times t w n) x =
+  timely-stands = of-timer (Timely k) (Stands (settingOf k row) s) λ t w n x.
       let c = count-before (k .limits) t (omega (arith, x .limit, x .least)) in
       let m : length (timersOf k) ≡ length (k .ranges) = length-map (k .limits) isLimit ∙ even in
       (omega (arith, x .named, names-first), omega (arith, x .of-name, names-first), omega (arith, state-length k), x .most)
 
   timely-fits : (old : Within (cells k) s) (r : Role) → TimelyIn k r → FitIn (settingOf k row) s old r
-  timely-fits old (pushes fits) x = tt
-  timely-fits old computes x = tt
-  timely-fits old tests x = tt
-  timely-fits old opens x = tt
-  timely-fits old (picks side v) x = tt
-  timely-fits old (lets v) x = tt
-  timely-fits old (settles v) x = tt
-  timely-fits old (times t w n) x =
+  timely-fits old = of-timer (Timely k) (Fit (settingOf k row) s old) λ t w n x.
       (cell-time k even t (omega (arith, x .limit, x .least)) ∙ ap timeRange (x .limit), cell-name t (x .named) ∙ x .own)
 
   -- ---- a run along the check's walk

@@ -14,15 +14,13 @@ use Rattle.semantics.specs.Formula.{State}
 use Rattle.semantics.specs.Rows.{ifAccepted, acceptedStates, finalState}
 use Rattle.bytecode.specs.Check.{checkOf}
 use Rattle.bytecode.specs.Parts.{shapeIn}
-use Rattle.semantics.specs.Shape.{stateLength, startingState}
-use Rattle.leb128.proofs.RoundTrip.{sets-join}
+use Rattle.semantics.specs.Shape.{stateLength, startingState, valuesOf}
 use Rattle.scan.specs.declared.Started.the-variants as S
 use Rattle.scan.specs.Services.{AfterStart, started, startOf, scanOf, scansOf}
 use Rattle.scan.specs.Results.{afterStart}
 use Rattle.correctness.specs.TraceCorrect.{verdictOf, replyOf}
-use Rattle.leb128.proofs.Stores.{sets-clip}
+use Rattle.leb128.proofs.Stores.{sets-clip, sets-append}
 use Rattle.replay.specs.declared.Replayed.the-variants as R
-use Rattle.semantics.specs.Shape.{valuesOf}
 use Rattle.replay.specs.Replay.{answerNumber, stepsOf, replayRows}
 use Rattle.replay.specs.Results.{lent, afterReplay}
 use Rattle.replay.specs.Inner.Records.{Records, records, addedBy, recordScan, scanRows}
@@ -30,7 +28,7 @@ use Rattle.replay.specs.Inner.Records.{Records, records, addedBy, record
 -- values stored behind a part that was stored as far as there was room
 pub sets-behind : {A : Type 0} (l : List A) (at : ℕ) (a b : List A) → sets (sets l at a) (min (at + length a) (length l)) b ≡ sets l at (a ++ b)
 sets-behind l at a b =
-    ap (λ (k : ℕ). sets (sets l at a) (min (at + length a) k) b) (sym (length-sets l at a)) ∙ sets-clip (sets l at a) (at + length a) b ∙ sets-join l at a b
+    ap (λ (k : ℕ). sets (sets l at a) (min (at + length a) k) b) (sym (length-sets l at a)) ∙ sets-clip (sets l at a) (at + length a) b ∙ sym (sets-append l at a b)
 
 added : (o : Answer (Unit {0})) (s : State) (more : List State) → addedBy o s ++ valuesOf more ≡ valuesOf (ifAccepted (verdictOf o) s more)
 added (accepted u) s more = refl

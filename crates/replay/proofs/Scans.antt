@@ -1,20 +1,20 @@
 -- What the running code records of scans, one after the other. Assumes nothing.
-use Prim.Native.Nat.{ℕ, zero, suc, _+_, _-_, _≤_, _<_, min}
+use Prim.Native.Nat.{ℕ, suc, _+_, _-_, _≤_, _<_, min}
 use mathlib.Core.Path.{_≡_, refl, sym, ap, _∙_}
 use mathlib.Core.Bool.{Bool, true, false}
-use mathlib.Core.List.{List, [], _∷_}
-use native.Mathlib.Nat.{min-zero, zero-min, suc-min-suc}
+use mathlib.Core.List.{List, []}
 use native.Mathlib.Omega.{arith}
 use native.Mathlib.Numerals.{add-one}
 use lib.Dec.{leb}
 use lib.IntN.{ℤ}
 use lib.ListN.{length, take, drop, set, getD, length-drop}
-use lib.Seq.{sets, drop-cons, drop-drop, drop-nil, drop-length, take-all, length-sets}
+use lib.Seq.{sets, drop-cons, drop-drop, drop-length, take-all, length-sets}
 use borrow.Author.Tests.{leb-true, leb-false}
 use Rattle.semantics.specs.Formula.{State}
 use Rattle.scan.specs.declared.Scanned.the-variants as R
 use Rattle.scan.specs.Services.{AfterScan, scanOf}
 use Rattle.scan.specs.Results.{afterScan}
+use Rattle.leb128.proofs.Stores.{drop-clip}
 use Rattle.replay.specs.declared.Cursor.{Cursor}
 use Rattle.replay.specs.Replay.{rowsOf}
 use Rattle.replay.specs.Inner.Records.{Records, records, recordScan, scanRows, RowScanned}
@@ -35,15 +35,10 @@ take-clipped from n end l e = by (leb n (length (drop from l))) (leb-true n (len
         let k : length (drop from l) ≤ end - from = omega (arith, length-drop from l) in
         take-all (end - from) (drop from l) k ∙ sym (take-all n (drop from l) (omega arith))
 
-pub drop-clipped : {A : Type 0} (i : ℕ) (l : List A) → drop (min i (length l)) l ≡ drop i l
-drop-clipped i [] = rw (min-zero i) (sym (drop-nil i))
-drop-clipped zero (x ∷ l) = rw (zero-min (suc (length l)))
-drop-clipped (suc i) (x ∷ l) = rw (suc-min-suc i (length l)) (drop-clipped i l)
-
 pub drop-all : {A : Type 0} (i : ℕ) (l : List A) → length l ≤ i → drop i l ≡ []
 drop-all i l h =
     let e : min i (length l) ≡ length l = omega arith in
-    sym (drop-clipped i l) ∙ rw e (drop-length l)
+    sym (drop-clip i l) ∙ rw e (drop-length l)
 
 -- ---- one scan
 
@@ -82,7 +77,7 @@ module _ {image : List ℕ} {cells : List ℤ} {lengths : List ℕ} {first : Rec
   pub scanning-goes : (next : Cursor) (m₁ : Records) → c .row < length lengths → RowScanned image cells lengths c next m m₁ → Scanning image cells lengths first next m₁
   scanning-goes next m₁ h r =
       let n = getD lengths (c .row) 0 in
-      let rest : drop (next .cell) cells ≡ drop n (drop (c .cell) cells) = rw (r .cell) (drop-clipped (c .cell + n) cells ∙ sym (drop-drop n (c .cell) cells)) in
+      let rest : drop (next .cell) cells ≡ drop n (drop (c .cell) cells) = rw (r .cell) (drop-clip (c .cell + n) cells ∙ sym (drop-drop n (c .cell) cells)) in
       let more : drop (c .row + 1) lengths ≡ drop (suc (c .row)) lengths = ap (λ (j : ℕ). drop j lengths) (add-one (c .row)) in
       record {
         inside = omega (arith, r .cell);

@@ -1,17 +1,17 @@
 -- The tests before an instalment. Assumes nothing.
-use Prim.Native.Nat.{ℕ, zero, suc, _≤_, _<_, _-_, min}
+use Prim.Native.Nat.{ℕ, _≤_, _<_, _-_, min}
 use native.Mathlib.Omega.{arith}
-use mathlib.Core.Path.{_≡_, refl}
+use mathlib.Core.Path.{_≡_}
 use mathlib.Core.List.{List}
 use lib.IntN.{ℤ}
 use lib.ListN.{length, take, drop, length-take, length-drop}
-use lib.Seq.{take-all}
 use borrow.Author.Tests.{eq-eqb, ne-eqb, lt-ltb, le-ltb}
 use Rattle.limits.specs.Limits.{imageLimit, pausedLength}
 use Rattle.paused.specs.declared.Checkpoint.{Checkpoint}
 use Rattle.paused.specs.declared.Layout.{Layout}
 use Rattle.paused.specs.declared.Response.the-variants as R
 use Rattle.paused.specs.Memory.{checkpointOf, layoutOf}
+use Rattle.machine.proofs.Stack.{not-none}
 use Rattle.resumable.specs.Instalment.{afterCall, instalment, advanceOf}
 
 module _ (image : List ℕ) (n : ℕ) (cells : List ℤ) where
@@ -34,14 +34,10 @@ module _ (image : List ℕ) (n : ℕ) (cells : List ℤ) where
       advance-zero h = rw (eq-eqb (length cells) pausedLength l, ← e, ne-eqb (p .phase) 0 y, eq-eqb (p .phase) 1 z, le-ltb 0 n (omega arith))
 
       module _ (some : n ≡ 0 → ⊥) (f : Layout) (g : f ≡ layoutOf cells) where
-        some-steps : (k : ℕ) → (k ≡ 0 → ⊥) → 0 < k
-        some-steps zero h = absurd (h refl)
-        some-steps (suc k) h = omega arith
-
         pub advance-other : (length image ≡ f .image → ⊥) → afterCall (R.Done 0) cells ≡ advanceOf image n cells
         unfolding advanceOf
         advance-other h =
-            rw (eq-eqb (length cells) pausedLength l, ← e, ← g, ne-eqb (p .phase) 0 y, eq-eqb (p .phase) 1 z, lt-ltb 0 n (some-steps n some), ne-eqb (length image) (f .image) h)
+            rw (eq-eqb (length cells) pausedLength l, ← e, ← g, ne-eqb (p .phase) 0 y, eq-eqb (p .phase) 1 z, lt-ltb 0 n (not-none n some), ne-eqb (length image) (f .image) h)
 
         module _ (h : length image ≡ f .image) where
           pub advance-past : length image - f .base ≤ p .place → afterCall (R.Done 0) cells ≡ advanceOf image n cells
@@ -53,7 +49,7 @@ module _ (image : List ℕ) (n : ℕ) (cells : List ℤ) where
                 ← g,
                 ne-eqb (p .phase) 0 y,
                 eq-eqb (p .phase) 1 z,
-                lt-ltb 0 n (some-steps n some),
+                lt-ltb 0 n (not-none n some),
                 eq-eqb (length image) (f .image) h,
                 le-ltb (p .place) (length image - f .base) q,
               )
@@ -67,14 +63,10 @@ module _ (image : List ℕ) (n : ℕ) (cells : List ℤ) where
                 ← g,
                 ne-eqb (p .phase) 0 y,
                 eq-eqb (p .phase) 1 z,
-                lt-ltb 0 n (some-steps n some),
+                lt-ltb 0 n (not-none n some),
                 eq-eqb (length image) (f .image) h,
                 lt-ltb (p .place) (length image - f .base) q,
               )
-
--- the rest of a list behind a place
-pub rest-is : (base : ℕ) (l : List ℕ) → take (length l - base) (drop base l) ≡ drop base l
-rest-is base l = take-all (length l - base) (drop base l) (simp length-drop (omega arith))
 
 pub rest-short : (base most : ℕ) (l : List ℕ) → length l ≤ most → length (take (length l - base) (drop base l)) ≤ most
 rest-short base most l h = simp (length-take, length-drop) (omega arith)

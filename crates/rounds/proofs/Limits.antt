@@ -2,12 +2,13 @@
 use Prim.Native.Nat.{ℕ, zero, suc, _*_, _-_, _≤_, _<_}
 use native.Mathlib.Omega.{arith}
 use mathlib.Core.Path.{_≡_, refl, sym, ap, _∙_}
-use mathlib.Core.Bool.{Bool, true, false, _&&_}
+use mathlib.Core.Bool.{Bool, true, false}
 use mathlib.Core.List.{List, [], _∷_}
 use lib.Dec.{leb}
 use lib.ListN.{length, getD, take, drop, length-drop}
 use lib.Seq.{take-all}
 use borrow.Author.Tests.{lt-ltb, le-ltb}
+use Rattle.arith.proofs.Basics.{and-both}
 use Rattle.rounds.specs.Visits.{shareInLimit, setsInLimit, roundOf}
 use Rattle.rounds.specs.Together.{Together, rounded, visitsOf, callOf}
 
@@ -62,16 +63,12 @@ limit-next most table m h a r e =
 
 -- ---- the round
 
-both-right : (a b : Bool) → (a && b) ≡ true → b ≡ true
-both-right true b e = e
-both-right false b e = never e
-
 pub table-short : (most : ℕ) (table : List ℕ) → setsInLimit most table ≡ true → length table ≤ 3 * most
 table-short most [] e = omega arith
 table-short zero (x ∷ table) e = never e
 table-short (suc most) (x ∷ []) e = never e
 table-short (suc most) (x ∷ (y ∷ [])) e = never e
-table-short (suc most) (x ∷ (y ∷ (z ∷ table))) e = let h = table-short most table (both-right (shareInLimit z) (setsInLimit most table) e) in omega (arith, h)
+table-short (suc most) (x ∷ (y ∷ (z ∷ table))) e = let h = table-short most table (and-both (shareInLimit z) (setsInLimit most table) e .1) in omega (arith, h)
 
 module _ (table images : List ℕ) (m : Together) where
   pub round-empty : length table < 1 → rounded 25 m ≡ callOf table images m

@@ -1,32 +1,22 @@
 -- Visits to the sets of a table, one after the other. Assumes nothing.
-use Prim.Native.Nat.{ℕ, zero, suc, _+_, _-_, _≤_, _<_, min}
+use Prim.Native.Nat.{ℕ, suc, _+_, _-_, _≤_, _<_, min}
 use native.Mathlib.Omega.{arith}
-use native.Mathlib.Nat.{min-zero, zero-min, suc-min-suc}
 use mathlib.Core.Path.{_≡_, refl, sym, ap, _∙_}
 use mathlib.Core.List.{List, [], _∷_, _++_, append-nil}
 use lib.IntN.{ℤ}
 use lib.ListN.{length, getD, take, drop, set, length-append, length-take, length-drop, drop-of-length-le}
-use lib.Seq.{sets, take-nil, drop-nil, take-all, take-length, take-append-seam, drop-append-seam}
+use lib.Seq.{sets, take-all, take-length, take-append-seam, drop-append-seam}
 use borrow.Rule.Slice.PartMut.{midOf, postOf, putMid, same-len-mid}
 use Rattle.limits.specs.Limits.{pausedLength}
 use Rattle.semantics.specs.Formula.{State}
 use Rattle.paused.specs.declared.Response.{Response}
 use Rattle.paused.specs.Responses.{packedResponse}
 use Rattle.lifecycle.specs.Calls.{afterFinish}
+use Rattle.leb128.proofs.Stores.{take-clip, drop-clip}
 use Rattle.rounds.specs.Visits.{visitOf, roundFrom}
 use Rattle.rounds.specs.Together.{answersOf, Together, together, visitsOf}
 
 -- ---- parts that are clipped
-
-pub take-least : {A : Type 0} (n : ℕ) (l : List A) → take (min n (length l)) l ≡ take n l
-take-least n [] = rw (min-zero n) (sym (take-nil n))
-take-least zero (x ∷ l) = rw (zero-min (suc (length l)))
-take-least (suc n) (x ∷ l) = rw (suc-min-suc n (length l)) (ap (λ r. x ∷ r) (take-least n l))
-
-pub drop-least : {A : Type 0} (n : ℕ) (l : List A) → drop (min n (length l)) l ≡ drop n l
-drop-least n [] = rw (min-zero n) (sym (drop-nil n))
-drop-least zero (x ∷ l) = rw (zero-min (suc (length l)))
-drop-least (suc n) (x ∷ l) = rw (suc-min-suc n (length l)) (drop-least n l)
 
 -- ---- the table
 
@@ -89,10 +79,10 @@ module _ (table images : List ℕ) (paused states : List ℤ) (answers : List �
       let pl : length vs ≡ p = omega (arith, lv, length-take p paused) in
       let nl : length s ≡ n = omega (arith, ls, length-take n states) in
       let v : afterFinish r vs s ≡ visitOf (take (getD table 0 0) images) (getD table 2 0) (take pausedLength paused) (take (getD table 1 0) states) =
-      e ∙ rw (ep, eb, en, take-least pausedLength paused, take-least (getD table 0 0) images, take-least (getD table 1 0) states) in
+      e ∙ rw (ep, eb, en, take-clip pausedLength paused, take-clip (getD table 0 0) images, take-clip (getD table 1 0) states) in
       let tb : take (length table - 3) (drop 3 table) ≡ drop 3 table = take-all (length table - 3) (drop 3 table) (simp length-drop (omega arith)) in
       let ib : take (length images - b) (drop b images) ≡ drop (getD table 0 0) images =
-      take-all (length images - b) (drop b images) (simp length-drop (omega arith)) ∙ ap (λ (m : ℕ). drop m images) eb ∙ drop-least (getD table 0 0) images in
-      let pb : midOf p (length (vs ++ drop p paused) - p) (vs ++ drop p paused) ≡ drop pausedLength paused = rest-of p paused vs pl ∙ ap (λ (m : ℕ). drop m paused) ep ∙ drop-least pausedLength paused in
-      let sb : midOf n (length (s ++ drop n states) - n) (s ++ drop n states) ≡ drop (getD table 1 0) states = rest-of n states s nl ∙ ap (λ (m : ℕ). drop m states) en ∙ drop-least (getD table 1 0) states in
+      take-all (length images - b) (drop b images) (simp length-drop (omega arith)) ∙ ap (λ (m : ℕ). drop m images) eb ∙ drop-clip (getD table 0 0) images in
+      let pb : midOf p (length (vs ++ drop p paused) - p) (vs ++ drop p paused) ≡ drop pausedLength paused = rest-of p paused vs pl ∙ ap (λ (m : ℕ). drop m paused) ep ∙ drop-clip pausedLength paused in
+      let sb : midOf n (length (s ++ drop n states) - n) (s ++ drop n states) ≡ drop (getD table 1 0) states = rest-of n states s nl ∙ ap (λ (m : ℕ). drop m states) en ∙ drop-clip (getD table 1 0) states in
       rw (rejoined p paused vs pl ys, rejoined n states s nl ts) (turned table images paused states answers i h r vs s v ys ts a (rw (tb, ib, pb, sb, k) at q))

@@ -7,14 +7,15 @@ use mathlib.Core.List.{List, [], _∷_}
 use lib.Dec.{leb, ltb}
 use lib.IntN.{ℤ, pos, negℤ, _+ℤ_, _-ℤ_, _*ℤ_}
 use lib.Signed.{quotZ}
-use lib.ListN.{length, set, length-set}
+use lib.ListN.{length, length-set}
 use borrow.Author.Tests.{ltb-true}
 use Rattle.limits.specs.Limits.{stackLimit, timeLimit, overflow, valueOutOfRange}
 use Rattle.arith.specs.Values.{Outcome, ok, refusal, _>>=_, require, eqZ, isInt32, int32, nonZero, remainder, Operation, add, subtract, multiply, divide, modulo, arithmetic, negation}
-use Rattle.semantics.specs.Program.{Range, Side, changing, rising, falling, Timer, within, rangeAt}
+use Rattle.semantics.specs.Program.{Range, Side, changing, rising, falling, within, rangeAt}
 use Rattle.semantics.specs.Formula.{State, at}
-use Rattle.semantics.specs.Shape.{Setting, timeCell, newTime, due, timePlace, timed}
+use Rattle.semantics.specs.Shape.{Setting, timePlace}
 use Rattle.semantics.specs.ReferenceScan.{ranged, moves, stays, picked}
+use Rattle.semantics.proofs.Cells.{timed-length}
 use Rattle.leb128.specs.Numbers.{Read, got, nothing}
 use Rattle.bytecode.specs.Instructions.{Instruction, constant, current, previous, operation, negate, comparison, negated, both, either, gate, pick, assign, settle, timer, fetch}
 use Rattle.machine.specs.Step.{Machine, machine, yes, push, pop, gated, settled, perform, step}
@@ -101,12 +102,6 @@ module _ (ns : Setting) (s : State) (w : ℕ) where
   settled-sized v z true vs t h = h
   settled-sized v z false vs t h = (h .0, length-set t v z ∙ h .1)
 
-  timed-sized : (x : Timer) (t : State) → length (timed ns s x t) ≡ length t
-  unfolding timed
-  timed-sized x t =
-      let e = newTime ns s x (at t (x .watched)) in
-      length-set (set t (timeCell ns x) e) (x .id) (due (x .limit) (at t (x .watched)) e) ∙ length-set t (timeCell ns x) e
-
   perform-sized : (i : Instruction) (c : Bool) (vs : List ℤ) (t : State) → length vs ≤ stackLimit → length t ≡ w → SizedIn w (perform ns s i c vs t)
   perform-sized (constant z) c vs t l e = push-sized z c vs t e
   perform-sized (current i) c vs t l e = cond-sized (ltb i (length (ns .ranges))) _ (push-sized (at t i) c vs t e)
@@ -128,7 +123,7 @@ module _ (ns : Setting) (s : State) (w : ℕ) where
       cond-sized (ltb u (length (ns .ranges))) _
       (cond-sized (ltb v (length (ns .ranges))) _
       (cond-sized (ltb (timePlace (ns .timers) u) (length (ns .ranges))) _
-      (cond-sized (leb n timeLimit) _ (l, timed-sized (record { id = u; watched = v; limit = n }) t ∙ e))))
+      (cond-sized (leb n timeLimit) _ (l, timed-length ns s (record { id = u; watched = v; limit = n }) t ∙ e))))
 
   step-sized : (i : Instruction) (m : Machine) → Sized w m → SizedIn w (step ns s i m)
   step-sized i (machine false c vs t) h = perform-sized i c vs t (h .0) (h .1)

@@ -118,7 +118,6 @@ ToCome k s u known x = getD known (x .watched) false ≡ false → Equations k s
 pub unknown-kept : (v i end : ℕ) (ts : List Timer) (known : List Bool) (t : ℕ) → Numbered (suc i) end ts → t ≡ i → EachTimer (Unknown v known) ts → EachTimer (Unknown v (set known t true)) ts
 unknown-kept v i end ts known t num c un =
     each-map (λ y. ((suc i ≤ y .id) × (y .id < end)) × Unknown v known y) (Unknown v (set known t true)) (λ y h d.
-    let a = h .0 .0 in
     getD-set-other known t (y .id) true false (λ f. let b : ⊥ = omega arith in b) ∙ h .1 d) ts (each-both (λ y. (suc i ≤ y .id) × (y .id < end)) (Unknown v known) ts (numbered-from (suc i) (suc i) end ts (omega arith) num) un)
 
 -- v is no timer, so it stands before them
@@ -173,30 +172,22 @@ module _ (k : Setting) (s : State) (n first : ℕ) (owner : ℕ → ℕ) where
   module _ (x : Timer) (p : Placed k n first owner x) (known : List Bool) (t u : State) (l : length known ≡ n) (m : length t ≡ length (marks first known)) (w : getD known (x .watched) false ≡ true) where
     place-in : timeCell k x < length (marks first known)
     place-in =
-        let c = p .place in
-        let d = p .below in
-        let e = p .after in
         let a = marks-length first known in
         omega arith
 
     id-in : x .id < length (set (marks first known) (timeCell k x) true)
     id-in =
-        let d = p .below in
         let a : length (set (marks first known) (timeCell k x) true) ≡ length known + (length known - first) = simp length-set (marks-length first known) in
         omega arith
 
     cells-of : marks first (set known (x .id) true) ≡ set (set (marks first known) (timeCell k x) true) (x .id) true
     cells-of =
-        let c = p .place in
-        let d = p .below in
         marks-timer first known (x .id) (timeCell k x) (p .after) (omega arith) (omega arith)
 
     timer-back : getD known (x .id) false ≡ false → Agree (marks first (set known (x .id) true)) (timed k s x t) u → Agree (marks first known) t u × Equations k s u x
     unfolding timed
     timer-back unknown agree =
         let e = timeCell k x in
-        let c = p .place in
-        let d = p .below in
         let now = at t (x .watched) in
         let z = newTime k s x now in
         let apart : x .id ≢ e = λ q. let b : ⊥ = omega arith in b in
@@ -240,7 +231,6 @@ module _ (k : Setting) (s : State) (n first : ℕ) (owner : ℕ → ℕ) where
       go true yes₁ no₁ agree ih =
           let p = pl .0 in
           let c : x .id ≡ i = num .0 in
-          let q = p .after in
           let e : x .watched ≡ v = yes₁ refl in
           let known₁ = set known (x .id) true in
           let l₁ : length known₁ ≡ n = simp length-set l in
@@ -265,7 +255,6 @@ module _ (k : Setting) (s : State) (n first : ℕ) (owner : ℕ → ℕ) where
           → Agree (marks first (timersKnown v xs (cond b (set known (x .id) true) known))) (runTimers k s v xs (cond b (timed k s x t) t)) u
       go false yes₁ ih = ih known t l m w agree
       go true yes₁ ih =
-          let q = pl .0 .after in
           let known₁ = set known (x .id) true in
           let l₁ : length known₁ ≡ n = simp length-set l in
           let m₁ : length (timed k s x t) ≡ length (marks first known₁) = omega (arith, timed-length k s x t, marks-length first known, marks-length first known₁) in
@@ -281,7 +270,6 @@ module _ (k : Setting) (s : State) (n first : ℕ) (owner : ℕ → ℕ) where
     pub first-unknown : getD known v false ≡ false → EachTimer (Waiting known) ts → EachTimer (Unknown v (set known v true)) ts
     first-unknown e h =
         each-map (λ x. Placed k n first owner x × Waiting known x) (Unknown v (set known v true)) (λ x g d.
-        let a = g .0 .after in
         getD-set-other known v (x .id) true false (λ f. let b : ⊥ = omega arith in b) ∙ g .1 (rw d e)) ts (each-both (Placed k n first owner) (Waiting known) ts placed h)
 
     -- so w of a timer that is not known after the rule of v was not known before, and is not v
@@ -298,7 +286,6 @@ module _ (k : Setting) (s : State) (n first : ℕ) (owner : ℕ → ℕ) where
         one : (x : Timer) → Placed k n first owner x → Waiting known x → Waiting (timersKnown v ts (set known v true)) x
         one x p w e =
             let u = still-unknown x p e in
-            let a = p .after in
             let other : EachTimer (λ y. y .watched ≡ v → x .id ≢ y .id) ts =
             each-map (Placed k n first owner) (λ y. y .watched ≡ v → x .id ≢ y .id) (λ y q f g. u .0 (sym (p .owned) ∙ ap owner g ∙ q .owned ∙ f)) ts placed in
             timers-other v (x .id) ts (set known v true) other ∙ getD-set-other known v (x .id) true false (λ f. let b : ⊥ = omega arith in b) ∙ w (u .1)

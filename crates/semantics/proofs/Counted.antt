@@ -55,7 +55,7 @@ map-append : (f : Range → ℤ) (ns ms : List Range) → map f (ns ++ ms) ≡ m
 map-append f [] ms = refl
 map-append f (n ∷ ns) ms = ap (λ (l : List ℤ). f n ∷ l) (map-append f ns ms)
 
-within-nil : (ns : List Range) → allWithin ns [] ≡ true
+pub within-nil : (ns : List Range) → allWithin ns [] ≡ true
 within-nil [] = refl
 within-nil (n ∷ ns) = refl
 

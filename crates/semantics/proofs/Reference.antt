@@ -135,8 +135,6 @@ marked-input first k m i f e = go (ltb i (length (knownFirst k m))) (ltb-true i 
 inputs-first : (ns : List Range) (inputs first : ℕ) (ts : List Timer) → inputs ≤ length ns → first + length ts ≡ length ns → EachTimer (TimerFits ns inputs first) ts → inputs ≤ first
 inputs-first ns inputs first [] f c h = omega arith
 inputs-first ns inputs first (x ∷ xs) f c h =
-    let a = h .0 .a-variable in
-    let b = h .0 .no-timer in
     omega arith
 
 pub inputs-before : (p : Program) → WellFormed p → p .inputs ≤ firstTimer p
@@ -147,7 +145,6 @@ pub first-waiting : (p : Program) → WellFormed p → EachTimer (Waiting (known
 first-waiting p wf =
     each-map (Placed (settingOf (shapeOf p) []) (length (rangesOf p)) (firstTimer p) (ownerOf p)) (Waiting (knownFirst (p .inputs) (length (rangesOf p)))) (λ x h e.
     let a = inputs-before p wf in
-    let b = h .after in
     variable-unknown (p .inputs) (length (rangesOf p)) (x .id) (omega arith)) (p .timers) (placed p (wf .timed) [])
 
 pub allWithin-append : (ns ms : List Range) (zs : List ℤ) → length zs ≤ length ns → T (allWithin ns zs) → T (allWithin (ns ++ ms) zs)
@@ -187,7 +184,6 @@ module _ (p : Program) (wf : WellFormed p) (s : State) (g : InRanges p s) (row :
   within₀ : T (allWithin (cells (shapeOf p)) (withInputs s inputs₀))
   within₀ =
       let a = fits in
-      let b = wf .inputs-fit in
       let c : T (allWithin (cells (shapeOf p)) inputs₀) = rw (cells-last p (wf .timed)) (allWithin-append (rangesOf p) (map (λ x. timeRange (x .limit)) (p .timers)) inputs₀ (omega arith) inside) in
       allWithin-inputs (cells (shapeOf p)) inputs₀ s c (g .ranges)
 

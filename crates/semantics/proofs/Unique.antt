@@ -4,7 +4,7 @@ use Prim.Native.Nat.{ℕ, zero, suc, _+_, min, _<_}
 use native.Mathlib.Omega.{arith}
 use native.Mathlib.Decide.{ℕ-discrete}
 use mathlib.Core.Path.{_≡_, refl, sym, ap, _∙_, subst}
-use mathlib.Core.Bool.{Bool, true, false, _&&_, _||_, cond, false≢true}
+use mathlib.Core.Bool.{Bool, true, false, _&&_, _||_, cond, false≢true, or-true, or-false}
 use mathlib.Core.List.{List, [], _∷_, _++_, map}
 use mathlib.Core.Option.{Option, none, some}
 use lib.Dec.{T, leb, eqb, ltb→lt, le→leb}
@@ -19,7 +19,7 @@ use Rattle.semantics.specs.Shape.{allWithin, Setting, timeRange, timeCel
 use Rattle.semantics.specs.ReferenceScan.{ranged, moves, stays, picked, tryCase, tryCases, orPrevious, newValue, runTimers, scanRules}
 use Rattle.semantics.specs.Rows.{Equations}
 use borrow.Author.Tests.{not-true}
-use Rattle.arith.proofs.Basics.{and-left, and-right, and-T, T-true, eqZ-self, eqZ-true, ok≢refusal, ok-inj, Bound, bound, unbind, passed, bind-cong, bind-assoc, or-true, or-false, or-second, T-not-false}
+use Rattle.arith.proofs.Basics.{and-left, and-right, and-T, T-true, eqZ-self, eqZ-true, ok≢refusal, ok-inj, Bound, bound, unbind, passed, bind-cong, bind-assoc, or-second, T-not-false}
 use Rattle.semantics.proofs.Timers.{each-map, each-both, Placed}
 use Rattle.semantics.proofs.Cells.{Agree, agree-set, agree-back, all-true, marks, marks-length, marks-name, all-marked, agree-names, Waiting, ToCome, before-timers, not-taken, known-length, timers-length, timers-back, timers-value, names-kept, first-unknown, still-waiting}
 
@@ -367,9 +367,6 @@ module _ (k : Setting) (s : State) (n first : ℕ) (owner : ℕ → ℕ) (ts : L
     (λ i h. rw (ok-inj e)),
     tt,
     each-map (Placed k n first owner) (ToCome k s u known) (λ x p h.
-        let a = p .watches in
-        let b = p .after in
-        let c = p .below in
         absurd (false≢true (sym h ∙ all-true known o (x .watched) (omega arith)))) ts placed,
   )
   scan-new (r ∷ rs) known t u l m waiting o e =

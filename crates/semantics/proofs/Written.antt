@@ -3,7 +3,7 @@
 use Prim.Native.Nat.{ℕ, zero, suc}
 use native.Mathlib.Omega.{arith}
 use mathlib.Core.Path.{_≡_, refl, sym}
-use mathlib.Core.Bool.{Bool, true, false, cond, true≢false}
+use mathlib.Core.Bool.{Bool, true, false, cond, true≢false, or-true, or-false}
 use mathlib.Core.List.{List, [], _∷_, _++_}
 use mathlib.Core.Logic.{_⊎_, inl, inr}
 use mathlib.Core.Option.{Option, none, some}
@@ -12,7 +12,7 @@ use lib.ListN.{replicate}
 use lib.Signed.{leZ, ltZ}
 use borrow.Author.Tests.{le-ltb, leb-false, not-true}
 use Rattle.arith.specs.Values.{Outcome, ok, refusal, _>>=_, eqZ}
-use Rattle.arith.proofs.Basics.{eqZ-self, ok≢refusal, ok-inj, Bound, bound, unbind, bind-assoc, or-true, or-false}
+use Rattle.arith.proofs.Basics.{eqZ-self, ok≢refusal, ok-inj, Bound, bound, unbind, bind-assoc}
 use Rattle.semantics.specs.Program.{Program, Range, Side, changing, rising, falling, Case, Rule, function, change, target, Sided, all-changing, up-then-down, sides, SidedR, SidedAll, AgreesR, AgreesAll, WellFormed}
 use Rattle.semantics.specs.Formula.{State, at, evalE, evalC, anyCase, formulasOfRule, sameSide, ofSide, risingFormula, fallingFormula, allChanging, writtenOfRule, writtenOfRules, writtenOf, Holds, GX, All}
 use Rattle.semantics.specs.Shape.{shapeOf, cells}
@@ -111,9 +111,10 @@ module _ (ns : List Range) (s t : State) (v : ℕ) where
       (rw (same-side (k .side), p, q, part-quiet (k .side) ks z f r, or-false) (rw (d .0)))
       λ other. part-held (sameSide other (k .side)) k (ofSide other ks) x p q (part-quiet other ks z f r))
 
-  kept : (ks : List Case) (y : ℤ) (f : Option ℤ) → tryCases ns s t v (some y) ks ≡ ok f → f ≡ some y
-  kept [] y f e = sym (ok-inj e)
-  kept (k ∷ ks) y f e = go (λ q. kept ks y f q) (unbind (evalC s t (k .condition)) _ f e)
+  -- the first value found stays
+  pub found-stays : (ks : List Case) (y : ℤ) (f : Option ℤ) → tryCases ns s t v (some y) ks ≡ ok f → f ≡ some y
+  found-stays [] y f e = sym (ok-inj e)
+  found-stays (k ∷ ks) y f e = go (λ q. found-stays ks y f q) (unbind (evalC s t (k .condition)) _ f e)
     where
       go : (tryCases ns s t v (some y) ks ≡ ok f → f ≡ some y)
           → Bound (evalC s t (k .condition)) (λ c. tryCase ns s t v (some y) (k .side) (k .value) c >>= λ g. tryCases ns s t v g ks) f → f ≡ some y
@@ -125,7 +126,7 @@ module _ (ns : List Range) (s t : State) (v : ℕ) where
   parts (k ∷ ks) f e = go (λ q. parts ks f q) (unbind (evalC s t (k .condition)) _ f e)
     where
       go₂ : (x : ℤ) → evalC s t (k .condition) ≡ ok true → evalE s t (k .value) ≡ ok x → Bound (picked (k .side) ns s v x) (λ z. tryCases ns s t v (some z) ks) f → Parts (k ∷ ks) f
-      go₂ x p q₁ (bound z q₂ q₃) = parts-held k ks x z f p q₁ q₂ q₃ (kept ks z f q₃)
+      go₂ x p q₁ (bound z q₂ q₃) = parts-held k ks x z f p q₁ q₂ q₃ (found-stays ks z f q₃)
 
       go₁ : evalC s t (k .condition) ≡ ok true → Bound (evalE s t (k .value)) (λ x. picked (k .side) ns s v x >>= (λ z. ok (some z)) >>= λ g. tryCases ns s t v g ks) f → Parts (k ∷ ks) f
       go₁ p (bound x q₁ q₂) = go₂ x p q₁ (unbind (picked (k .side) ns s v x) _ f (rw bind-assoc at q₂))

@@ -1,44 +1,31 @@
 -- The measures of a sound image, with timers and without. Assumes nothing.
-use Prim.Native.Nat.{ℕ, zero, suc, _+_, _-_, _≤_}
+use Prim.Native.Nat.{ℕ, zero, suc, _+_, _≤_}
 use mathlib.Core.Path.{_≡_, refl, sym, ap, subst, _∙_}
 use mathlib.Core.Bool.{false}
 use mathlib.Core.List.{List, [], _∷_, _++_, map, map-append}
 use native.Mathlib.Omega.{arith}
 use lib.Dec.{ltb}
-use lib.IntN.{ℤ, pos}
+use lib.IntN.{ℤ}
 use lib.ListN.{length, getD, take, drop, replicate, length-map, length-append, length-replicate}
 use lib.Pow.{pow-pos}
 use lib.Seq.{sets}
 use borrow.Author.Tests.{lt-ltb, le-ltb}
 use Rattle.limits.specs.Limits.{timeLimit}
-use Rattle.limits.specs.Answer.{accepted, refused}
+use Rattle.limits.specs.Answer.{accepted}
 use Rattle.arith.specs.Inner.Flags.{flagsOf}
 use Rattle.leb128.proofs.Stores.{sets-append}
 use Rattle.semantics.specs.Program.{Range}
-use Rattle.semantics.specs.Shape.{timersOf, countTrue, hasTimer, timeRanges, cells, stateLength, startingState}
+use Rattle.semantics.specs.Shape.{hasTimer, timeRanges, cells, stateLength}
 use Rattle.semantics.proofs.Timers.{times-append}
-use Rattle.semantics.proofs.Counted.{state-length, starting-state}
 use Rattle.bytecode.specs.Check.{Header, checkHeader, checkOf}
-use Rattle.bytecode.specs.Parts.{headerOf, lows, highs, starts, codeOf, limitsFrom, limitsOf, shapeIn}
+use Rattle.bytecode.specs.Parts.{headerOf, lows, highs, codeOf, limitsFrom, limitsOf, shapeIn}
 use Rattle.bytecode.specs.Results.{HeaderStands}
 use Rattle.bytecode.proofs.SoundHeader.{header-found, header-counts, header-place, lows-stored, highs-stored}
 use Rattle.bytecode.proofs.Limits.{limits-length, cells-untimed, state-length-untimed, timers-untimed}
 use Rattle.bytecode.proofs.ImageLimits.{limits-most, state-most}
-use Rattle.shapes.specs.declared.Measured.{Measured}
 use Rattle.shapes.specs.declared.Times.{Times}
-use Rattle.shapes.specs.declared.Shaped.{Shaped}
-use Rattle.shapes.specs.declared.Shaped.the-variants as S
 use Rattle.shapes.specs.Inner.Times.{TimesStand}
-use Rattle.shapes.specs.Results.{Measures, ShapedAs, ShapedBy}
-
--- ---- what the answer says
-
-module _ {image : List ℕ} {low₀ high₀ low high : List ℤ} {r : Shaped} (x : ShapedBy image low₀ high₀ low high r) where
-  pub shaped-stands : {m : Measured} → r ≡ S.Shape m → Measures image low₀ high₀ low high m
-  shaped-stands e = subst (λ (q : Shaped). ShapedAs image low₀ high₀ low high q) e (x .so)
-
-  pub shaped-refused : {number place : ℕ} → r ≡ S.Refused number place → (checkOf image ≡ refused number place) × (place ≤ 65536)
-  shaped-refused e = subst (λ (q : Shaped). ShapedAs image low₀ high₀ low high q) e (x .so)
+use Rattle.shapes.specs.Results.{Measures}
 
 -- ---- any timer
 
@@ -136,12 +123,3 @@ module _ (image : List ℕ) {low₀ high₀ start₀ low high start : List ℤ} 
         lower = cells-stored (λ n. n .low) low₀ low low₁ (lows-stored image x) (y .lower);
         upper = cells-stored (λ n. n .high) high₀ high high₁ (highs-stored image x) (y .upper);
       }
-
--- ---- the starting state: the header's starts, then an elapsed time of 0 for each number more
-
-pub starts-then-zeros : {image : List ℕ} {low₀ high₀ low high : List ℤ} {m : Measured} → Measures image low₀ high₀ low high m
-    → startingState (shapeIn image) ≡ starts (headerOf image .ranges) ++ replicate (m .size - m .names) (pos 0)
-starts-then-zeros {image} {low₀} {high₀} {low} {high} {m} x =
-    let k = shapeIn image in
-    let n : countTrue (timersOf k) ≡ m .size - m .names = omega (arith, state-length k, x .size-is, x .names-are) in
-    starting-state k ∙ ap (λ (n : ℕ). starts (headerOf image .ranges) ++ replicate n (pos 0)) n

@@ -1,13 +1,12 @@
 -- Rule sets do not meet: each answers and is left as if it were alone. Assumes nothing.
 use Prim.Native.Nat.{ℕ, zero, suc}
 use native.Mathlib.Omega.{arith}
-use mathlib.Core.Path.{_≡_, refl, sym, ap, _∙_}
-use mathlib.Core.Bool.{Bool, true, false}
+use mathlib.Core.Path.{_≡_, refl, ap, _∙_}
 use mathlib.Core.List.{List, [], _∷_, map}
 use mathlib.Core.Option.{Option, some}
-use lib.Dec.{eqb}
+use lib.Dec.{eqb·suc-suc}
 use lib.ListN.{getElem?}
-use borrow.Author.Tests.{eq-eqb, ne-eqb, eqb-true, eqb-false}
+use borrow.Author.Tests.{ne-eqb}
 use Rattle.shares.specs.Farm.{Post, RuleSet, Turn, visited, still, Event, posts, round, postedTo, happens, leftSets, happening, own, does, alone}
 
 at-map : {A B : Type 0} (f : A → B) (xs : List A) (i : ℕ) (x : A) → getElem? xs i ≡ some x → getElem? (map f xs) i ≡ some (f x)
@@ -15,19 +14,12 @@ at-map f [] i x e = let z : _≡_ {A = ℕ} 0 1 = cc in absurd (omega arith)
 at-map f (y ∷ xs) zero x e = let q : y ≡ x = cc in rw q
 at-map f (y ∷ xs) (suc i) x e = at-map f xs i x e
 
-eqb-suc : (i j : ℕ) → eqb (suc i) (suc j) ≡ eqb i j
-eqb-suc i j = by (eqb i j) refl
-  where
-    by : (b : Bool) → eqb i j ≡ b → eqb (suc i) (suc j) ≡ eqb i j
-    by true e = eq-eqb (suc i) (suc j) (ap suc (eqb-true i j e)) ∙ sym e
-    by false e = ne-eqb (suc i) (suc j) (λ h. eqb-false i j e (omega arith)) ∙ sym e
-
 at-posted : (p : Post) (xs : List RuleSet) (i j : ℕ) (x : RuleSet) → getElem? xs i ≡ some x → getElem? (postedTo j p xs) i ≡ some (does (own i (posts j p)) x)
 at-posted p [] i j x e = let z : _≡_ {A = ℕ} 0 1 = cc in absurd (omega arith)
 at-posted p (y ∷ xs) zero zero x e = let q : y ≡ x = cc in rw q
 at-posted p (y ∷ xs) zero (suc j) x e = let q : y ≡ x = cc in rw (q, ne-eqb 0 (suc j) (λ h. omega arith))
 at-posted p (y ∷ xs) (suc i) zero x e = rw (ne-eqb (suc i) 0 (λ h. omega arith)) (at-map still xs i x e)
-at-posted p (y ∷ xs) (suc i) (suc j) x e = rw (eqb-suc i j) (at-posted p xs i j x e)
+at-posted p (y ∷ xs) (suc i) (suc j) x e = rw (eqb·suc-suc i j) (at-posted p xs i j x e)
 
 at-event : (e : Event) (xs : List RuleSet) (i : ℕ) (x : RuleSet) → getElem? xs i ≡ some x → getElem? (happens e xs) i ≡ some (does (own i e) x)
 at-event (posts j p) xs i x h = at-posted p xs i j x h

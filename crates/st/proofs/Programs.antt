@@ -304,10 +304,6 @@ var-no-input : sameName (bytes "VAR") (bytes "VAR_INPUT") ≡ false
 unfolding sameName sameBytes capitals capital
 var-no-input = refl
 
-nothing-begins : (begins "VAR_INPUT" [] ≡ false) × (begins "VAR" [] ≡ false)
-unfolding sameName sameBytes capitals capital
-nothing-begins = (refl, refl)
-
 inputs-read : (is : List Declaration) → WritableD is → (ts : Lexemes) → readSection "VAR_INPUT" (tokensSection "VAR_INPUT" is (bytes "VAR" ∷ ts)) ≡ read is (bytes "VAR" ∷ ts)
 inputs-read [] h ts = section-absent "VAR_INPUT" (bytes "VAR" ∷ ts) var-no-input
 inputs-read (d ∷ ds) h ts = section-read "VAR_INPUT" same-input d ds h (bytes "VAR" ∷ ts)

@@ -6,7 +6,7 @@ use mathlib.Core.Bool.{Bool, true, false, not, _&&_, _||_, cond, false≢true}
 use mathlib.Core.List.{List, [], _∷_}
 use lib.Dec.{eqb, leb, ltb}
 use lib.ListN.{length}
-use borrow.Author.Tests.{ne-eqb, eqb-true, leb-true, ltb-true}
+use borrow.Author.Tests.{ne-eqb, eqb-true, leb-true, ltb-true, not-true}
 use Rattle.arith.proofs.Basics.{and-both}
 use Rattle.lexer.specs.Bytes.{bytes, sameBytes, capital, capitals}
 use Rattle.lexer.specs.Lexer.{isDigit, isLetter, isAlphanumeric, sameName}
@@ -19,24 +19,8 @@ use Rattle.st.proofs.Lexed.{Parts, Numeral, NameWord}
 
 -- ---- bytes
 
--- where a part stands: among the small letters, the capitals, the digits, or `_`
-data PartAt (b : ℕ) : Type 0 where
-  small : 97 ≤ b → b < 123 → PartAt b
-  large : 65 ≤ b → b < 91 → PartAt b
-  digit : 48 ≤ b → b < 58 → PartAt b
-  underscore : b ≡ 95 → PartAt b
-
 between : (m b n : ℕ) → (leb m b && ltb b n) ≡ true → (m ≤ b) × (b < n)
 between m b n e = let h = and-both (leb m b) (ltb b n) e in (leb-true m b (h .0), ltb-true b n (h .1))
-
-part-at : (b : ℕ) → isPart b ≡ true → PartAt b
-part-at b e = by (leb 97 b && ltb b 123) (leb 65 b && ltb b 91) (leb 48 b && ltb b 58) (eqb b 95) refl refl refl refl e where
-  by : (s t u v : Bool) → (leb 97 b && ltb b 123) ≡ s → (leb 65 b && ltb b 91) ≡ t → (leb 48 b && ltb b 58) ≡ u → eqb b 95 ≡ v → (s || (t || (u || v))) ≡ true → PartAt b
-  by true t u v es et eu ev e = let h = between 97 b 123 es in small (h .0) (h .1)
-  by false true u v es et eu ev e = let h = between 65 b 91 et in large (h .0) (h .1)
-  by false false true v es et eu ev e = let h = between 48 b 58 eu in digit (h .0) (h .1)
-  by false false false true es et eu ev e = underscore (eqb-true b 95 ev)
-  by false false false false es et eu ev e = absurd (false≢true e)
 
 -- a byte of these is a part
 part-small : (s t u v : Bool) → s ≡ true → (s || (t || (u || v))) ≡ true
@@ -134,10 +118,6 @@ neither : (s t : Bool) → (s || t) ≡ false → (s ≡ false) × (t ≡ false)
 neither true t e = absurd (false≢true (sym e))
 neither false t e = (refl, e)
 
-untrue : (t : Bool) → not t ≡ true → t ≡ false
-untrue true e = absurd (false≢true e)
-untrue false e = refl
-
 -- the first byte of an identifier is a part, and no digit
 begins-word : (a : ℕ) → (isLetter a || eqb a 95) ≡ true → (isPart a ≡ true) × (isDigit a ≡ false)
 unfolding isLetter isDigit
@@ -184,7 +164,7 @@ unfolding isIdentifier
 identifier-word a l h e =
     let x = and-both (isProduced (a ∷ l)) (not (isAny keywords (a ∷ l))) e in
     let b = begins-word a (produced-begins a l (x .0)) in
-    let k₀ = neither (sameName (a ∷ l) (bytes "VAR")) _ (untrue (isAny keywords (a ∷ l)) (x .1)) in
+    let k₀ = neither (sameName (a ∷ l) (bytes "VAR")) _ (not-true (isAny keywords (a ∷ l)) (x .1)) in
     let k₁ = neither (sameName (a ∷ l) (bytes "VAR_INPUT")) _ (k₀ .1) in
     let k₂ = neither (sameName (a ∷ l) (bytes "END_VAR")) _ (k₁ .1) in
     let k₃ = neither (sameName (a ∷ l) (bytes "DINT")) _ (k₂ .1) in

@@ -6,25 +6,17 @@ use mathlib.Core.List.{List, [], _∷_, map}
 use mathlib.Core.Option.{Option, none, some}
 use lib.IntN.{ℤ}
 use lib.ListN.{length}
-use Rattle.limits.specs.Limits.{secondTrueCase}
 use Rattle.arith.specs.Values.{ok, _>>=_}
-use Rattle.arith.proofs.Basics.{ok≢refusal, ok-inj, Bound, bound, unbind}
+use Rattle.arith.proofs.Basics.{ok-inj, Bound, bound, unbind}
 use Rattle.semantics.specs.Program.{Range, Case, UsableK}
 use Rattle.semantics.specs.Formula.{State, evalE, evalC}
 use Rattle.semantics.specs.ReferenceScan.{picked, tryCase, tryCases}
 use Rattle.semantics.proofs.Unique.{picked-is}
+use Rattle.semantics.proofs.Written.{found-stays}
 use Rattle.st.specs.Syntax.{Identifier, StExpression, Branch}
 use Rattle.st.specs.Meaning.{dint, truth, Store, evaluate, holding, isInput, assignedTo, firstTrue}
 use Rattle.st_program.specs.Written.{nameAt, expressionInSt, conditionInSt, branchInSt}
 use Rattle.st_program.proofs.Values.{Literal, LiteralC, Shows, expression-same, condition-same}
-
--- the first value found stays
-found-stays : (ns : List Range) (s t : State) (v : ℕ) (y : ℤ) (ks : List Case) (f : Option ℤ) → tryCases ns s t v (some y) ks ≡ ok f → some y ≡ f
-found-stays ns s t v y [] f e = ok-inj e
-found-stays ns s t v y (k ∷ ks) f e = by (unbind (evalC s t (k .condition)) (λ c. tryCase ns s t v (some y) (k .side) (k .value) c >>= λ g. tryCases ns s t v g ks) f e) (found-stays ns s t v y ks f) where
-  by : Bound (evalC s t (k .condition)) (λ c. tryCase ns s t v (some y) (k .side) (k .value) c >>= λ g. tryCases ns s t v g ks) f → (tryCases ns s t v (some y) ks ≡ ok f → some y ≡ f) → some y ≡ f
-  by (bound true ec r) more = ok≢refusal f secondTrueCase (sym r)
-  by (bound false ec r) more = more r
 
 abbrev pub LiteralK : List Case → Type 0
 LiteralK [] = Unit {0}
@@ -59,7 +51,7 @@ module _ (names : List Identifier) (lazy : Bool) (σ : Store) (t s : State) (h :
 
     pick : (g : Option ℤ) → tryCases ns s t v g ks ≡ ok f → evalC s t (k .condition) ≡ ok true → (x : ℤ) → evalE s t (k .value) ≡ ok x → Bound (picked (k .side) ns s v x) (λ z. ok (some z)) g
         → firstTrue lazy (map (branchInSt names v) (k ∷ ks)) σ ≡ afterwards f (nameAt names v) σ
-    pick g r ec x ex (bound z ez q) = given x z ex (picked-is ns s t v (k .side) x z ez .0) (found-stays ns s t v z ks f (ap (λ y. tryCases ns s t v y ks) (ok-inj q) ∙ r)) ec
+    pick g r ec x ex (bound z ez q) = given x z ex (picked-is ns s t v (k .side) x z ez .0) (sym (found-stays ns s t v ks z f (ap (λ y. tryCases ns s t v y ks) (ok-inj q) ∙ r))) ec
 
     work : (g : Option ℤ) → tryCases ns s t v g ks ≡ ok f → evalC s t (k .condition) ≡ ok true → Bound (evalE s t (k .value)) (λ x. picked (k .side) ns s v x >>= λ z. ok (some z)) g
         → firstTrue lazy (map (branchInSt names v) (k ∷ ks)) σ ≡ afterwards f (nameAt names v) σ

@@ -142,7 +142,6 @@ module _ (p : Program) (w : InSt p) where
     begun : Underway (namesOf p) (inputs-given .store) (withInputs s row) s (knownFirst (p .inputs) (length (rangesOf p)))
     begun =
         let c = same-count in
-        let m = w .well-formed .inputs-fit in
         record {
           shows = begun-shows;
           unknown = λ i h n. later-value row s i (let k = unknown-later (p .inputs) (length (rangesOf p)) i (omega arith) n in omega arith);

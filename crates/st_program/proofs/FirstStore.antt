@@ -133,7 +133,7 @@ all-first : (ws vs : List Identifier) → AllNames (ws ++ vs) → AllNames ws ×
 all-first [] vs h = (tt, h)
 all-first (w ∷ ws) vs h = let r = all-first ws vs (h .1) in ((h .0, r .0), r .1)
 
-spelled-append : (k l : List Name) → spelled (k ++ l) ≡ spelled k ++ spelled l
+pub spelled-append : (k l : List Name) → spelled (k ++ l) ≡ spelled k ++ spelled l
 spelled-append [] l = refl
 spelled-append (n ∷ k) l = ap (λ (ws : List Identifier). n .spelling ∷ ws) (spelled-append k l)
 

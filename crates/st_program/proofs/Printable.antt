@@ -2,13 +2,13 @@
 use Prim.Native.Nat.{ℕ, zero, suc, _<_, _≤_}
 use native.Mathlib.Omega.{arith}
 use mathlib.Core.Path.{_≡_, refl, sym, ap, _∙_, subst}
-use mathlib.Core.Bool.{Bool, true, false, not, false≢true}
+use mathlib.Core.Bool.{Bool, true, false, not}
 use mathlib.Core.List.{List, [], _∷_, _++_, map}
 use mathlib.Core.Option.{some}
 use lib.Dec.{ltb}
 use lib.IntN.{pos, negsuc}
 use lib.ListN.{length, set, take, drop, take-append-drop, length-set}
-use borrow.Author.Tests.{ltb-true}
+use borrow.Author.Tests.{ltb-true, not-true}
 use Rattle.arith.specs.Values.{isInt32}
 use Rattle.arith.proofs.Basics.{T-true, and-both}
 use Rattle.semantics.specs.Program.{Name, Expression, constant, current, previous, operation, negate, Condition, comparison, negated, both, either, Side, Case, Rule, function, change, target, Program, rangesOf, knownFirst, UsableE, UsableC, UsableK, UsableR, OrderedRules, Sided, all-changing, up-then-down, SidedR, SidedAll}
@@ -22,8 +22,9 @@ use Rattle.st.specs.Printed.{programPrinted}
 use Rattle.st.proofs.Lexed.{NameWord}
 use Rattle.st.proofs.Expressions.{Writable}
 use Rattle.st.proofs.Programs.{AllWritable, WritableS, AllWritableS, WritableD, program-read, nothing-read}
+use Rattle.bytecode.proofs.SmallOperands.{known-inside}
 use Rattle.st_program.specs.Written.{nameAt, expressionInSt, conditionInSt, branchInSt, ruleInSt, currentLine, previousLine, variableLines, savingLine, programInSt, stBytes, isStWord, noneStWord, hasSt, noTimer}
-use Rattle.st_program.proofs.Values.{Literal, LiteralC, known-in}
+use Rattle.st_program.proofs.Values.{Literal, LiteralC}
 use Rattle.st_program.proofs.Cases.{LiteralK}
 use Rattle.st_program.proofs.Rules.{LiteralR, LiteralAll}
 use Rattle.st_program.proofs.FirstStore.{AllNames, spelled, lineNames, lines-apart}
@@ -36,13 +37,9 @@ abbrev AllWords : List Identifier → Type 0
 AllWords [] = Unit {0}
 AllWords (w ∷ ws) = (NameWord w × NameWord (previousName w)) × AllWords ws
 
-untrue : (t : Bool) → not t ≡ true → t ≡ false
-untrue true e = absurd (false≢true e)
-untrue false e = refl
-
 all-words : (ws : List Identifier) → AllNames ws → noneStWord ws ≡ true → AllWords ws
 all-words [] h e = tt
-all-words (w ∷ ws) h e = let x = and-both (not (isStWord w)) (noneStWord ws) e in ((name-word w (h .0) (untrue (isStWord w) (x .0)), previous-word w (h .0)), all-words ws (h .1) (x .1))
+all-words (w ∷ ws) h e = let x = and-both (not (isStWord w)) (noneStWord ws) e in ((name-word w (h .0) (not-true (isStWord w) (x .0)), previous-word w (h .0)), all-words ws (h .1) (x .1))
 
 words-at : (ws : List Identifier) → AllWords ws → (i : ℕ) → i < length ws → NameWord (nameAt ws i) × NameWord (previousName (nameAt ws i))
 words-at [] h i k = absurd (omega arith)
@@ -61,7 +58,7 @@ module _ (ws : List Identifier) (words : AllWords ws) where
     unfolding expressionInSt
     writable-expression (constant (pos k)) u l = tt
     writable-expression (constant (negsuc k)) u l = absurd l
-    writable-expression (current i) u l = words-at ws words i (let j = known-in known i u in omega arith) .0
+    writable-expression (current i) u l = words-at ws words i (let j = known-inside known i u in omega arith) .0
     writable-expression (previous i) u l = words-at ws words i (let j = ltb-true i (length known) (T-true (ltb i (length known)) u) in omega arith) .1
     writable-expression (operation o a b) u l = (writable-expression a (u .0) (l .0), writable-expression b (u .1) (l .1))
     writable-expression (negate a) u l = writable-expression a u l

@@ -5,7 +5,7 @@ use mathlib.Core.Path.{_≡_, refl, sym, ap, _∙_, subst}
 use mathlib.Core.Bool.{Bool, true, false, cond, false≢true}
 use mathlib.Core.List.{List, [], _∷_, _++_, map}
 use mathlib.Core.Logic.{_⊎_, inl, inr}
-use mathlib.Core.Option.{Option, none, some}
+use mathlib.Core.Option.{Option, some}
 use lib.IntN.{ℤ}
 use lib.ListN.{length, getD}
 use Rattle.lexer.specs.Lexer.{sameName}
@@ -14,6 +14,7 @@ use Rattle.grammar.specs.Spelled.{Apart, Distinct}
 use Rattle.semantics.specs.Formula.{at}
 use Rattle.st.specs.Syntax.{Identifier}
 use Rattle.st.specs.Meaning.{Variable, Store, with, valueIn, holding, holdingAll, nextInput, givenRow, isInput, valuesIn}
+use Rattle.bytecode.proofs.Soundness.{none≢some}
 
 -- ---- names
 
@@ -53,9 +54,6 @@ apart-input w (x ∷ σ) a = by (x .input) (apart-input w σ (a .1)) where
 
 -- ---- one new value
 
-no≢some : {A X : Type 0} (a : A) → _≡_ {A = Option A} none (some a) → X
-no≢some a e = let z : _≡_ {A = ℕ} 0 1 = cc in let f : ⊥ = omega arith in absurd f
-
 pub record Held (w : Identifier) (z : ℤ) (σ : Store) : Type 0 where
   pub store : Store
   pub is : holding w z σ ≡ some store
@@ -67,7 +65,7 @@ pub record Held (w : Identifier) (z : ℤ) (σ : Store) : Type 0 where
 
 pub held : (w : Identifier) (z y : ℤ) (σ : Store) → valueIn σ w ≡ some y → Held w z σ
 unfolding valueIn holding isInput inputNames
-held w z y [] e = no≢some y e
+held w z y [] e = none≢some y e
 held w z y (x ∷ σ) e = by (sameName w (x .name)) refl e (held w z y σ) where
   apart : (u : Identifier) (t : Bool) → sameName u (x .name) ≡ t → sameName w (x .name) ≡ true → sameName u w ≡ false → t ≡ false
   apart u true q p n = absurd (false≢true (sym n ∙ same-third u w (x .name) q p))
@@ -260,11 +258,6 @@ in-either a (b ∷ k) l (inr i) = later (in-either a k l i) where
   later : In a k ⊎ In a l → In a (b ∷ k) ⊎ In a l
   later (inl x) = inl (inr x)
   later (inr x) = inr x
-
-pub in-at : {A : Type 0} (l : List A) (i : ℕ) (d : A) → i < length l → In (getD l i d) l
-in-at [] i d h = absurd (omega arith)
-in-at (a ∷ l) zero d h = inl refl
-in-at (a ∷ l) (suc i) d h = inr (in-at l i d (omega arith))
 
 -- apart from all is apart from one
 pub apart-in : (w u : Identifier) (ws : List Identifier) → Apart w ws → In u ws → sameName w u ≡ false

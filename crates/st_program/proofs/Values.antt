@@ -1,14 +1,14 @@
 -- Expressions and conditions have the same values in Structured Text. Assumes nothing.
-use Prim.Native.Nat.{ℕ, zero, suc, _<_}
+use Prim.Native.Nat.{ℕ, _<_}
 use native.Mathlib.Omega.{arith}
 use mathlib.Core.Path.{_≡_, refl, sym, ap, _∙_}
-use mathlib.Core.Bool.{Bool, true, false, not, _&&_, _||_, cond, false≢true}
-use mathlib.Core.List.{List, [], _∷_}
+use mathlib.Core.Bool.{Bool, true, false, not, _&&_, _||_, cond}
+use mathlib.Core.List.{List}
 use mathlib.Core.Option.{none, some}
 use lib.Dec.{ltb}
 use lib.IntN.{ℤ, pos, negsuc, negℤ, _+ℤ_, _-ℤ_, _*ℤ_}
 use lib.Signed.{quotZ}
-use lib.ListN.{length, getD}
+use lib.ListN.{length}
 use borrow.Author.Tests.{ltb-true}
 use Rattle.arith.specs.Values.{ok, _>>=_, require, eqZ, isInt32, int32, remainder, Operation, add, subtract, multiply, divide, modulo, arithmetic, negation, Comparison, equal, notEqual, less, lessEqual, greater, greaterEqual, compares}
 use Rattle.arith.proofs.Basics.{T-true, ok≢refusal, ok-inj, Bound, bound, unbind}
@@ -16,6 +16,7 @@ use Rattle.semantics.specs.Program.{Expression, constant, current, previous, op
 use Rattle.semantics.specs.Formula.{State, at, evalE, evalC}
 use Rattle.st.specs.Syntax.{Identifier, or, and, Operator, connects, relates, computes, StExpression, negative, complement, binary}
 use Rattle.st.specs.Meaning.{Value, dint, truth, dintResult, applied, opposed, decides, Store, valueIn, evaluate, previousName}
+use Rattle.bytecode.proofs.SmallOperands.{known-inside}
 use Rattle.st_program.specs.Written.{nameAt, expressionInSt, conditionInSt}
 
 -- ---- operations
@@ -100,12 +101,6 @@ pub record Shows (names : List Identifier) (σ : Store) (t s : State) : Type 0 w
   pub now : (i : ℕ) → i < length names → valueIn σ (nameAt names i) ≡ some (at t i)
   pub past : (i : ℕ) → i < length names → valueIn σ (previousName (nameAt names i)) ≡ some (at s i)
 
-pub known-in : (l : List Bool) (i : ℕ) → getD l i false ≡ true → i < length l
-known-in [] zero e = absurd (false≢true e)
-known-in [] (suc i) e = absurd (false≢true e)
-known-in (b ∷ l) zero e = omega arith
-known-in (b ∷ l) (suc i) e = let j = known-in l i e in omega arith
-
 module _ (names : List Identifier) (lazy : Bool) (σ : Store) (t s : State) (h : Shows names σ t s) (known : List Bool) (n : length known ≡ length names) where
   of-operation : (o : Operation) (x : ℤ) (b : Expression) (z : ℤ) (u v : StExpression) → evaluate lazy σ u ≡ some (dint x) → ((y : ℤ) → evalE s t b ≡ ok y → evaluate lazy σ v ≡ some (dint y))
       → (evalE s t b >>= λ y. arithmetic o x y) ≡ ok z → evaluate lazy σ (binary (computes o) u v) ≡ some (dint z)
@@ -121,7 +116,7 @@ module _ (names : List Identifier) (lazy : Bool) (σ : Store) (t s : State) (h :
   unfolding evaluate expressionInSt
   expression-same (constant (pos k)) u l z e = rw (T-true (isInt32 (pos k)) u) (ap (λ x. some (dint x)) (ok-inj e))
   expression-same (constant (negsuc k)) u l z e = absurd l
-  expression-same (current i) u l z e = rw (h .now i (let j = known-in known i u in omega arith)) (ap (λ x. some (dint x)) (ok-inj e))
+  expression-same (current i) u l z e = rw (h .now i (let j = known-inside known i u in omega arith)) (ap (λ x. some (dint x)) (ok-inj e))
   expression-same (previous i) u l z e = rw (h .past i (let j = ltb-true i (length known) (T-true (ltb i (length known)) u) in omega arith)) (ap (λ x. some (dint x)) (ok-inj e))
   expression-same (operation o a b) u l z e = by (unbind (evalE s t a) (λ x. evalE s t b >>= λ y. arithmetic o x y) z e) (expression-same a (u .0) (l .0)) (expression-same b (u .1) (l .1)) where
     by : Bound (evalE s t a) (λ x. evalE s t b >>= λ y. arithmetic o x y) z → ((x : ℤ) → evalE s t a ≡ ok x → evaluate lazy σ (expressionInSt names a) ≡ some (dint x)) → ((y : ℤ) → evalE s t b ≡ ok y → evaluate lazy σ (expressionInSt names b) ≡ some (dint y))

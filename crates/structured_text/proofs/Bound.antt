@@ -5,7 +5,7 @@ use native.Mathlib.Omega.{arith}
 use native.Mathlib.Numerals.{add-one}
 use mathlib.Core.Path.{_≡_, refl, sym, ap, _∙_}
 use mathlib.Core.List.{List, [], _∷_, _++_, map}
-use mathlib.Core.Option.{Option, none, some}
+use mathlib.Core.Option.{none, some}
 use lib.IntN.{ℤ, pos, negℤ}
 use lib.ListN.{length, getElem?, take, drop, take-append-drop, length-append}
 use Rattle.limits.specs.Limits.{bufferTooShort, notInSt}
@@ -31,6 +31,7 @@ use Rattle.st.specs.Syntax.{Identifier, Declaration}
 use Rattle.st.specs.Printed.{expressionPrinted, statementPrinted, statementsPrinted, declarationsPrinted, sectionPrinted, programPrinted}
 use Rattle.st_program.specs.Written.{nameAt, currentLine, previousLine, variableLines, savingLine, ruleInSt, programInSt, stBytes}
 use Rattle.st_program.proofs.FirstStore.{spelled}
+use Rattle.bytecode.proofs.Soundness.{none≢some}
 use Rattle.structured_text.specs.Services.{structuredTextOf}
 use Rattle.structured_text.specs.Room.{stRoom, StBound}
 use Rattle.structured_text.proofs.Ways.{StWay, printed-whole, too-short, reserved, faulty, st-way}
@@ -165,11 +166,8 @@ var-later = omega arith
 
 -- ---- names are as long as the tokens that spell them
 
-no≢some : {X : Type 0} (w : List ℕ) → _≡_ {A = Option (List ℕ)} none (some w) → X
-no≢some w e = let z : _≡_ {A = ℕ} 0 1 = cc in let f : ⊥ = omega arith in absurd f
-
 sized : (ws : List Identifier) → ((i : ℕ) (w : List ℕ) → getElem? ws i ≡ some w → IsName w) → (i : ℕ) (w : List ℕ) → getElem? (normals ws) i ≡ some w → (length (nameAt ws i) ≡ length w) × (1 ≤ length w)
-sized [] h i w e = no≢some w e
+sized [] h i w e = none≢some w e
 sized (x ∷ ws) h zero w e = let q : normal x ≡ w = cc in let a = ap length q in let b = normal-length x in let c = name-length x (h zero x refl) .0 in (omega arith, omega arith)
 sized (x ∷ ws) h (suc i) w e = sized ws (λ j v g. h (suc j) v g) i w e
 

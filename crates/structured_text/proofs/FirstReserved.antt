@@ -24,8 +24,9 @@ use Rattle.grammar.proofs.Growth.{bytesOf, spells-bytes}
 use Rattle.grammar.proofs.Standing.{written, is-read, spells-append, split, stands-in, spells-in}
 use Rattle.grammar.proofs.Phrases.{fixed-at, name-at}
 use Rattle.grammar.proofs.ConverseText.{accepted-exactly}
+use Rattle.grammar.proofs.DerivedTimers.{timers-counted}
 use Rattle.st_program.specs.Written.{isStWord, noneStWord, hasSt}
-use Rattle.st_program.proofs.FirstStore.{spelled}
+use Rattle.st_program.proofs.FirstStore.{spelled, spelled-append}
 use Rattle.structured_text.specs.Services.{declaresName, reservedFrom, reservedPlace}
 use Rattle.structured_text.proofs.SolePlace.{sole-outside}
 use Rattle.structured_text.specs.Place.{DeclaredIn, none, a-declared, another, FirstReserved, NoneTimer, FirstOutside, a-name, a-timer, OutsideAt}
@@ -281,14 +282,6 @@ timers-walked text names ts ns xs (S.DeclareTimers.more us vs t l x ys (S.Declar
     let q = fixed-at written text timerWord refl a (g .0) h st in
     inr (rw q (record { end = g .0; separated = st .separated; stands = subst (TokenFrom text (st .start) (g .0)) (same-token (st .kind) timerWord (st .start) (g .0) (sym (is-read st) ∙ q)) (st .is-token) }))
 
-timers-counted : {names : List (List ℕ)} {ts : List (List ℕ)} {ns : List Name} {xs : List Timer} → DeclareTimers names ts ns xs → length ns ≡ length xs
-timers-counted S.DeclareTimers.none = refl
-timers-counted (S.DeclareTimers.more us vs t l x ys d r) = ap suc (timers-counted r)
-
-spelled-both : (ns ms : List Name) → spelled (ns ++ ms) ≡ spelled ns ++ spelled ms
-spelled-both [] ms = refl
-spelled-both (n ∷ ns) ms = ap (λ (l : List (List ℕ)). n .spelling ∷ l) (spelled-both ns ms)
-
 spelled-front : (ns ms : List Name) (n : ℕ) → n ≡ length ns → take n (spelled (ns ++ ms)) ≡ spelled ns
 spelled-front ns ms n e = rw e (go ns) where
   go : (k : List Name) → take (length k) (spelled (k ++ ms)) ≡ spelled k
@@ -320,8 +313,8 @@ module _ (text : List ℕ) (p : Program) (s : Spelled text p) where
       let all = length-append (s .inputs ++ s .variables) (s .timer-names) in
       let n : length (p .names) ≡ length (s .inputs ++ s .variables ++ s .timer-names) = ap length (s .names) in
       let m = length-map (p .names) (λ x. x .range) in
-      let c = timers-counted (s .declares-timers) in
-      ap (λ (ns : List Name). take (firstTimer p) (spelled ns)) (s .names) ∙ spelled-front (s .inputs ++ s .variables) (s .timer-names) (firstTimer p) (omega arith) ∙ spelled-both (s .inputs) (s .variables)
+      let c = timers-counted _ _ _ _ (s .declares-timers) in
+      ap (λ (ns : List Name). take (firstTimer p) (spelled ns)) (s .names) ∙ spelled-front (s .inputs ++ s .variables) (s .timer-names) (firstTimer p) (omega arith) ∙ spelled-append (s .inputs) (s .variables)
 
   -- `timer` is none of the tokens before
   before-timers : NoneTimer (s .input-tokens ++ s .variable-tokens)
@@ -334,7 +327,7 @@ module _ (text : List ℕ) (p : Program) (s : Spelled text p) where
   by-timer lacks free d g place (inr y) =
       a-timer (record { none-reserved = free; tokens = s .input-tokens ++ s .variable-tokens; behind = d; spells-tokens = g; none-timer = before-timers; separated = y .separated; end = y .end; stands = y .stands })
   by-timer lacks free d g place (inl z) =
-      let q : namesOf p ≡ spelled (s .inputs) ++ spelled (s .variables) = ap (λ (ns : List Name). spelled ns) (s .names ∙ ap (λ (ns : List Name). s .inputs ++ s .variables ++ ns) (z .0) ∙ append-nil (s .inputs ++ s .variables)) ∙ spelled-both (s .inputs) (s .variables) in
+      let q : namesOf p ≡ spelled (s .inputs) ++ spelled (s .variables) = ap (λ (ns : List Name). spelled ns) (s .names ∙ ap (λ (ns : List Name). s .inputs ++ s .variables ++ ns) (z .0) ∙ append-nil (s .inputs ++ s .variables)) ∙ spelled-append (s .inputs) (s .variables) in
       absurd (false≢true (sym lacks ∙ rw (z .1, q, free)))
 
   -- of the walks over the inputs and over the variables behind them

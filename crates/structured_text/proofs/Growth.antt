@@ -31,9 +31,6 @@ use Rattle.st_program.specs.Written.{nameAt, expressionInSt, conditionInSt, bra
 
 one-longer : (v d : ℕ) → d < 10 → length (unsignedDecimal (10 * v + d)) ≤ length (unsignedDecimal v) + 1
 one-longer v d h = by (ltb (10 * v + d) 10) (ltb-true (10 * v + d) 10) (ltb-false (10 * v + d) 10) where
-  some-digit : 1 ≤ length (unsignedDecimal v) + 1
-  some-digit = omega arith
-
   by : (t : Bool) → (t ≡ true → 10 * v + d < 10) → (t ≡ false → 10 ≤ 10 * v + d) → length (unsignedDecimal (10 * v + d)) ≤ length (unsignedDecimal v) + 1
   by true f g = let e = ap length (decimal-small (10 * v + d) (f refl)) in omega arith
   by false f g =

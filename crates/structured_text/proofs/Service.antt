@@ -1,12 +1,12 @@
 -- From the descent, the header and the prints to the service's definition. Assumes nothing.
-use Prim.Native.Nat.{ℕ, zero, suc, _+_, _-_, _*_, _≤_, _<_}
+use Prim.Native.Nat.{ℕ, zero, suc, _+_, _*_, _≤_, _<_}
 use native.Mathlib.Omega.{arith}
 use mathlib.Core.Path.{_≡_, refl, sym, ap, subst, _∙_}
 use mathlib.Core.Bool.{Bool, true, false, _&&_}
 use mathlib.Core.List.{List, [], _∷_, _++_, map}
 use lib.IntN.{ℤ}
-use lib.ListN.{length, take, drop, length-map, length-drop}
-use lib.Seq.{sets, length-sets, take-all}
+use lib.ListN.{length, take, drop, length-map}
+use lib.Seq.{sets, length-sets}
 use borrow.Author.Tests.{le-leb, lt-leb}
 use Rattle.limits.specs.Limits.{textLimit, nameLimit}
 use Rattle.limits.specs.Answer as A
@@ -136,10 +136,6 @@ module _ (text before after starts ends : List ℕ) {r : Step} (short : length t
 starts-of : (ns : List Name) → Parts.starts (map (λ n. n .range) ns) ≡ map (λ n. n .range .start) ns
 starts-of [] = refl
 starts-of (n ∷ ns) = ap (λ (l : List ℤ). n .range .start ∷ l) (starts-of ns)
-
--- the part of the image that starts at the header's end
-pub code-rest : (image : List ℕ) (place : ℕ) → take (length image - place) (drop place image) ≡ drop place image
-code-rest image place = take-all (length image - place) (drop place image) (omega (arith, length-drop place image))
 
 module _ {text starts ends : List ℕ} {timers : ℕ} {image : List ℕ} (c : Compiled text starts ends timers image) where
   translatable : Translatable (c .program)

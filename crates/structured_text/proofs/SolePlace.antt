@@ -12,16 +12,11 @@ use Rattle.lexer.specs.Token.{Kind, name, timerWord, TokenRead, token}
 use Rattle.lexer.specs.Spelling.{Separated, TokenFrom}
 use Rattle.grammar.specs.Derivation.{asWritten, Stands, Spells}
 use Rattle.grammar.proofs.Standing.{is-read}
+use Rattle.grammar.proofs.Bytes.{heads, tails}
 use Rattle.st_program.specs.Written.{isStWord, noneStWord}
 use Rattle.structured_text.specs.Place.{DeclaredIn, none, a-declared, another, FirstReserved, NoneTimer, FirstTimer, FirstOutside, a-name, a-timer}
 
 -- ---- lists
-
-heads : {x y : List ℕ} {k l : List (List ℕ)} → x ∷ k ≡ y ∷ l → x ≡ y
-heads e = cc
-
-tails : {x y : List ℕ} {k l : List (List ℕ)} → x ∷ k ≡ y ∷ l → k ≡ l
-tails e = cc
 
 never-empty : {x : List ℕ} {l : List (List ℕ)} → x ∷ l ≡ [] → ⊥
 never-empty e = let n = ap {A = List (List ℕ)} length e in omega arith

@@ -3,7 +3,7 @@ use Prim.Native.Nat.{ℕ, suc, _+_, _-_, _≤_, _<_}
 use native.Mathlib.Numerals.{add-one}
 use native.Mathlib.Omega.{arith}
 use mathlib.Core.Path.{_≡_, refl, ap, _∙_}
-use mathlib.Core.Bool.{Bool, true, false, _&&_, _||_}
+use mathlib.Core.Bool.{Bool, true, false, _&&_}
 use mathlib.Core.List.{List, [], _∷_}
 use lib.ListN.{length, getD, drop, drop-of-length-le}
 use lib.Seq.{drop-cons}
@@ -16,10 +16,6 @@ use Rattle.expressions.proofs.Scopes.{names-counted}
 use Rattle.st_program.specs.Written.{isStWord, noneStWord, noTimer}
 use Rattle.st_writer.proofs.Laws.{name-at}
 use Rattle.structured_text.specs.Services.{declaresName, isOutside, reservedFrom, reservedPlace}
-
-pub or-none : (t : Bool) → (t || false) ≡ t
-or-none true = refl
-or-none false = refl
 
 -- ---- tokens
 

@@ -77,7 +77,6 @@ names-length : (names : List (List ℕ)) → AllShort names → length (spaced n
 names-length [] t = omega arith
 names-length (name ∷ names) t =
     let h = names-length names (t .1) in
-    let g = t .0 in
     rw (length-append name (spaced names)) (omega arith)
 
 pub head-length : (names : List (List ℕ)) → AllShort names → length names ≤ 64 → length (headLine names) ≤ 1100

@@ -9,3 +9,4 @@ pub mod Lengths
 pub mod Examples
 pub mod Handed
 pub mod Within
+pub mod SignedDecimals

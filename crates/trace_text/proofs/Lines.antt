@@ -1,11 +1,12 @@
 -- A line read byte by byte. Assumes nothing.
 use mathlib.Core.Path.{_≡_, refl}
-use mathlib.Core.Bool.{Bool, true, false, _&&_, cond, false≢true}
+use mathlib.Core.Bool.{Bool, true, false, cond}
 use mathlib.Core.List.{List, [], _∷_, _++_}
 use Prim.Native.Nat.{ℕ, suc, _<_}
 use lib.Dec.{eqb, ltb}
 use lib.IntN.{ℤ}
 use borrow.Author.Tests.{ltb-true}
+use Rattle.arith.proofs.Basics.{and-both}
 use Rattle.trace_text.specs.declared.Line.{Line}
 use Rattle.trace_text.specs.Inner.Stages.{lineAfter, cellsAfter, inWord32, counts, cellsEnd}
 
@@ -59,12 +60,8 @@ cells-nil s cells = refl
 
 -- ---- the number that ends
 
-and-right : (a b : Bool) → (a && b) ≡ true → b ≡ true
-and-right true b e = e
-and-right false b e = absurd (false≢true e)
-
 pub counted : (n : ℕ) (negative : Bool) (v : ℕ) → counts n negative v ≡ true → n < 64
-counted n negative v e = ltb-true n 64 (and-right (inWord32 negative v) (ltb n 64) e)
+counted n negative v e = ltb-true n 64 (and-both (inWord32 negative v) (ltb n 64) e .1)
 
 pub not-counted : (n : ℕ) (negative : Bool) (v : ℕ) (cells : List ℤ) → counts n negative v ≡ false → cellsEnd n negative v cells ≡ cells
 unfolding cellsEnd

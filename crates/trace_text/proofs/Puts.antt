@@ -66,6 +66,5 @@ module _ {l : List ℕ} {at : ℕ} {all k : List ℕ} {p : ℕ} where
 
   pub putting-done : {rest : List ℕ} → Putting l at all k p rest → rest ≡ [] → Put l at all k p
   putting-done h e =
-      let i = h .inside in
       let f = rw e at (h .place) in
       record { memory = rw e at (h .memory); place = omega arith }

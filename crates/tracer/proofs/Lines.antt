@@ -17,11 +17,12 @@ use Rattle.trace_text.specs.declared.Line.the-variants.{Start}
 use Rattle.trace_text.specs.Inner.Stages.{lineAfter, cellsAfter, countOf, cellsOf, handedRow}
 use Rattle.trace_text.specs.Output.{Put, rowLine}
 use Rattle.trace_text.proofs.Within.{count-within}
+use Rattle.leb128.proofs.Stores.{take-clip}
 use Rattle.tracer.specs.Printed.{refusalOf}
 use Rattle.tracer.specs.Session.{lineRoom, inRows, nextNumber, scanLine, after, putBy}
 use Rattle.tracer.specs.Inner.Contracts.{PutWhole}
 use Rattle.tracer.proofs.Begun.{put-whole}
-use Rattle.tracer.proofs.Taking.{take-clip}
+use Rattle.tracer.proofs.Taking.{}
 
 -- a row that was read is a part of the cells
 pub count-inside : (line : Line) {n left room : ℕ} → n ≡ countOf line → left ≡ room → 65 ≤ room → n ≤ left

@@ -1,15 +1,14 @@
 -- The bytes that one call takes: in the rows, in the text, behind a refused text. Assumes nothing.
 use mathlib.Core.Path.{_≡_, refl, sym, ap, subst, _∙_}
-use mathlib.Core.Bool.{Bool, true, false, true≢false}
+use mathlib.Core.Bool.{true, false, true≢false}
 use mathlib.Core.List.{List, [], _∷_, _++_, append-nil}
 use Prim.Native.Nat.{ℕ, suc, _+_, _-_, _≤_, _<_, min}
 use native.Mathlib.Numerals.{add-one}
 use native.Mathlib.Omega.{arith}
-use lib.Dec.{leb}
 use lib.IntN.{ℤ}
 use lib.ListN.{length, getD, take, drop, length-take, drop-of-length-le}
-use lib.Seq.{take-suc, drop-cons, take-at, take-all, take-length}
-use borrow.Author.Tests.{leb-true, leb-false, lt-ltb, le-ltb}
+use lib.Seq.{take-suc, drop-cons, take-at, take-all}
+use borrow.Author.Tests.{lt-ltb, le-ltb}
 use Rattle.limits.specs.Limits.{stateLimit}
 use Rattle.semantics.specs.Formula.{State}
 use Rattle.grammar.specs.Parse.{programOf}
@@ -22,6 +21,7 @@ use Rattle.trace_text.specs.Inner.Stages.{stageAfter, textAfter, stageOver, tex
 use Rattle.trace_text.proofs.Chunks.{rows-of, stage-rows, text-rows, none-before, before-cons}
 use Rattle.trace_text.proofs.Within.{rows-within}
 use Rattle.trace_text.proofs.Lengths.{put-cut}
+use Rattle.leb128.proofs.Stores.{take-clip}
 use Rattle.tracer.specs.declared.Tracer.{Tracer}
 use Rattle.tracer.specs.declared.Tracer.the-variants as T
 use Rattle.tracer.specs.Printed.{opening}
@@ -30,15 +30,6 @@ use Rattle.tracer.specs.Inner.Contracts.{PutWhole, Opens, Takes}
 use Rattle.tracer.proofs.Feeding.{fed-append, put-append, text-cut, cut-within, cut-again}
 
 -- ---- a part of the lent memory that is cut at its end
-
-pub take-clip : {A : Type 0} (n : ℕ) (l : List A) → take (min n (length l)) l ≡ take n l
-take-clip n l = by (leb n (length l)) (leb-true n (length l)) (leb-false n (length l)) where
-  by : (t : Bool) → (t ≡ true → n ≤ length l) → (t ≡ false → length l < n) → take (min n (length l)) l ≡ take n l
-  by true y f = let g = y refl in let e : min n (length l) ≡ n = omega arith in rw e
-  by false y f =
-      let g = f refl in
-      let e : min n (length l) ≡ length l = omega arith in
-      rw e (take-length l ∙ sym (take-all n l (omega arith)))
 
 -- ---- rows, byte by byte
 
@@ -67,7 +58,6 @@ module _ {room : ℕ} {before : Session} {part : List ℕ} {taken : ℕ} {s : Se
       let c : taken + suc (takenWith ((length out - put) - length (putBy s b)) (after s b) (drop (suc taken) part)) ≡ takenWith room before part =
       rw (d, le-ltb (length out - put) lineRoom r) at (h .count)
       in
-      let q = p .place in
       let m : length more - behind ≡ (length out - put) - length (putBy s b) = omega arith in
       let i : putOver before (take taken part) ++ (putBy s b ++ []) ≡ putOver before (take (taken + 1) part) =
       rw t (ap (λ (x : Session). putOver before (take taken part) ++ (putBy x b ++ [])) (h .session) ∙ sym (put-append before (take taken part) (b ∷ [])))
@@ -239,9 +229,6 @@ text-session LineStart t cells s e = refl
 text-session InLine t cells s e = refl
 text-session Hash t cells s e = refl
 text-session Rows t cells s e = absurd (true≢false e)
-
-pub refused-session : (stage : Stage) (t : List ℕ) (cells : List ℤ) → isRows stage ≡ true → ifText stage t cells passedOver ≡ passedOver
-refused-session stage t cells e = rw (rows-of stage e)
 
 -- ---- a call, by where the program stands
 

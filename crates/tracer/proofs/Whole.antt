@@ -7,15 +7,16 @@ use native.Mathlib.Omega.{arith}
 use lib.Dec.{leb}
 use lib.IntN.{ℤ}
 use lib.ListN.{length, take, drop, length-map, take-append-drop}
-use borrow.Author.Tests.{leb-true, leb-false, lt-ltb}
-use Rattle.limits.specs.Limits.{textLimit, tooLong}
+use borrow.Author.Tests.{leb-true, leb-false}
+use Rattle.limits.specs.Limits.{textLimit}
 use Rattle.limits.specs.Answer.{Answer, accepted, refused}
 use Rattle.semantics.specs.Program.{Program}
 use Rattle.semantics.specs.Rows.{startsOf}
 use Rattle.semantics.proofs.Reference.{starts-in-range}
 use Rattle.bytecode.specs.Translation.{imageOf}
-use Rattle.grammar.specs.Parse.{parse, programOf}
+use Rattle.grammar.specs.Parse.{programOf}
 use Rattle.grammar.proofs.Accepted.{program-translatable}
+use Rattle.grammar.proofs.Examples.{too-long}
 use Rattle.correctness.proofs.Correct.{scans-agree}
 use Rattle.trace_text.specs.declared.Stage.the-variants.{LineStart}
 use Rattle.trace_text.specs.declared.Line.the-variants.{Start}
@@ -32,17 +33,13 @@ use Rattle.tracer.proofs.Feeding.{total, scanLines, calls-total, rows-t
 
 -- ---- a text that is cut is over its limit as it was
 
-over-limit : (text : List ℕ) → textLimit < length text → programOf text ≡ refused tooLong 0
-unfolding programOf parse
-over-limit text h = rw (lt-ltb textLimit (length text) h)
-
 cut-program : (text : List ℕ) → programOf (take textRoom text) ≡ programOf text
 cut-program text = by (leb (length text) textLimit) refl where
   by : (t : Bool) → leb (length text) textLimit ≡ t → programOf (take textRoom text) ≡ programOf text
   by true e = ap programOf (text-seen text (leb-true _ _ e))
   by false e =
       let h : textLimit < length text = leb-false _ _ e in
-      over-limit (take textRoom text) (text-over text h) ∙ sym (over-limit text h)
+      too-long (take textRoom text) (text-over text h) ∙ sym (too-long text h)
 
 -- ---- a call as its contract says it: of a part it takes some bytes, and the rest is left for the next
 

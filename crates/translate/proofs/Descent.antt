@@ -11,7 +11,7 @@ use Rattle.lexer.specs.Token.{inputWord, varWord}
 use Rattle.lexer.specs.Names.{tableNames}
 use Rattle.semantics.specs.Program.{Name, Timer, Rule, Watch, Program, knownFirst}
 use Rattle.leb128.proofs.Laws.{groups-one}
-use Rattle.leb128.proofs.RoundTrip.{sets-join}
+use Rattle.leb128.proofs.Stores.{sets-append}
 use Rattle.grammar.specs.Parsed.{Parsed, accepted, refused, andThen}
 use Rattle.grammar.specs.Declarations.{declarations, spellings}
 use Rattle.grammar.specs.Timers.{WithTimers, timersFrom}
@@ -164,7 +164,7 @@ module _ (text before mid last starts ends watched limits : List ℕ) (a t c m v
   body =
       w ∙ ap (λ (l : List ℕ). sets l t (bytesR (x .read .timers) rules)) (x .wrote)
       ∙ ap (λ (k : ℕ). sets (sets before 2 (header (x .read .names))) k (bytesR (x .read .timers) rules)) (x .ended)
-      ∙ sets-join before 2 (header (x .read .names)) (bytesR (x .read .timers) rules)
+      ∙ sym (sets-append before 2 (header (x .read .names)) (bytesR (x .read .timers) rules))
 
   all-stored : set (set last 0 c) 1 (m - c) ≡ sets before 0 (image whole)
   all-stored =

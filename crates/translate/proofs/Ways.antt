@@ -10,7 +10,6 @@ use Rattle.limits.specs.Limits.{textLimit, nameLimit, watchLimit, noToken}
 use Rattle.lexer.specs.Token.{inputWord, varWord, fault}
 use Rattle.lexer.specs.Lexer.{tokenAt}
 use Rattle.semantics.specs.Program.{Name, Timer, Watch, Program}
-use Rattle.leb128.proofs.RoundTrip.{sets-join}
 use Rattle.grammar.specs.Parsed.{Parsed, accepted, refused, andThen}
 use Rattle.grammar.specs.Declarations.{declarations, spellings}
 use Rattle.grammar.specs.Timers.{WithTimers, timersFrom}
@@ -32,9 +31,11 @@ use Rattle.declarations.specs.Inner.Timers.{TimersStand, TimersHeld, timersHead
 use Rattle.declarations.proofs.Loop.{header-append}
 use Rattle.declarations.specs.Inner.Tables.{TableHolds, headerAfter}
 use Rattle.declarations.proofs.Known.{AllDeclared, header-joined}
+use Rattle.declarations.proofs.Entries.{step-refused}
 use Rattle.grammar.proofs.Combine.{then-then}
 use Rattle.expressions.proofs.Steps.{done-place}
 use Rattle.watches.proofs.Reading.{watches-fault}
+use Rattle.leb128.proofs.Stores.{sets-append}
 use Rattle.translate.specs.Inner.Descent.{Declarations, headingOf, HeadingRead, ReadsHeading, scopeAfter, scopeOfWatches, tailFrom}
 
 -- ---- what follows what
@@ -173,7 +174,7 @@ module _ (text before mid after e0 s1 e1 s2 e2 : List ℕ) (a t c b u m : ℕ) (
       y .wrote
       ∙ ap (λ (l : List ℕ). sets l t (headerAfter (x .all) (y .all))) (x .wrote)
       ∙ ap (λ (k : ℕ). sets (sets before 2 (header (x .all))) k (headerAfter (x .all) (y .all))) first-end
-      ∙ sets-join before 2 (header (x .all)) (headerAfter (x .all) (y .all))
+      ∙ sym (sets-append before 2 (header (x .all)) (headerAfter (x .all) (y .all)))
       ∙ ap (sets before 2) (sym joined)
 
   -- no timer yet
@@ -211,7 +212,7 @@ module _ (text before mid after e0 s1 e1 s2 e2 : List ℕ) (a t c b u m : ℕ) (
           counted = x .counted;
           named = z .tells-it;
           wrote = z .wrote ∙ ap (λ (l : List ℕ). sets l u (header (drop m (z .tree .names)))) stored ∙ ap (λ (k : ℕ). sets (sets before 2 (header (y .all))) k (header (drop m (z .tree .names)))) (sym end-is)
-              ∙ sets-join before 2 (header (y .all)) (header (drop m (z .tree .names))) ∙ ap (sets before 2) (sym whole);
+              ∙ sym (sets-append before 2 (header (y .all)) (header (drop m (z .tree .names)))) ∙ ap (sets before 2) (sym whole);
           held = subst (λ (k : ℕ). TableHolds text s3 e3 k (z .tree .names)) (sym (z .tells-it)) (kept .known .table);
           ordered = omega (arith, count);
           timed = stand-table watched limits m (z .tree .timers) (kept .timed) ∙ ap (tableTimers watched limits m) (omega (arith, count));
@@ -219,17 +220,14 @@ module _ (text before mid after e0 s1 e1 s2 e2 : List ℕ) (a t c b u m : ℕ) (
 
 -- ---- the answer
 
-no-step : {X : Type 0} (k q : ℕ) (x : Place) → Refused k q ≡ Done x → X
-no-step k q x h = let z : _≡_ {A = ℕ} 0 1 = cc in absurd (omega arith)
-
 pub refused-heading : (text before after' starts ends watched limits : List ℕ) {r : Step} {k q : ℕ} → r ≡ Refused k q → headingOf text ≡ refused k q → ReadsHeading text before after' starts ends watched limits r
-refused-heading text before after' starts ends watched limits {k = k} {q = q} g e = record { refuses = λ l p h. e ∙ passed (sym g ∙ h); reads = λ x h. no-step k q x (sym g ∙ h) }
+refused-heading text before after' starts ends watched limits {k = k} {q = q} g e = record { refuses = λ l p h. e ∙ passed (sym g ∙ h); reads = λ x h. step-refused k q x (sym g ∙ h) }
   where
     passed : {l p : ℕ} → Refused k q ≡ Refused l p → _≡_ {A = Parsed Declarations} (refused k q) (refused l p)
     passed h = cc
 
 pub done-heading : (text before after' starts ends watched limits : List ℕ) {r : Step} {x : Place} → r ≡ Done x → HeadingRead text before after' starts ends watched limits (x .at) (x .to) (x .start) (x .number) (x .end) → ReadsHeading text before after' starts ends watched limits r
 done-heading text before after' starts ends watched limits {x = x} g d = record {
-  refuses = λ k q h. no-step k q x (sym h ∙ g);
+  refuses = λ k q h. step-refused k q x (sym h ∙ g);
   reads = λ y h. subst (λ (z : Place). HeadingRead text before after' starts ends watched limits (z .at) (z .to) (z .start) (z .number) (z .end)) (done-place (sym g ∙ h)) d;
 }

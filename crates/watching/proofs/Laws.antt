@@ -2,7 +2,7 @@
 use Prim.Native.Nat.{ℕ, zero, suc, _+_, _<_}
 use native.Mathlib.Omega.{arith}
 use mathlib.Core.Path.{_≡_, refl, sym, ap, subst, _∙_}
-use mathlib.Core.Bool.{Bool, true, false}
+use mathlib.Core.Bool.{Bool, true, false, true≢false}
 use mathlib.Core.List.{List, [], _∷_}
 use mathlib.Core.Option.{Option, none, some}
 use lib.ListN.{getElem?}
@@ -10,7 +10,7 @@ use Rattle.semantics.specs.Formula.{Trace}
 use Rattle.semantics.specs.Program.{Watch}
 use Rattle.watching.specs.Watching.{placesOf, firstNo, firstFailure}
 use Rattle.watching.specs.Failing.{FailsAt}
-use Rattle.watching.proofs.Places.{true-false, none-some, some-inj, holds, failure-is, no-fails, fails-no}
+use Rattle.watching.proofs.Places.{none-some, some-inj, holds, failure-is, no-fails, fails-no}
 
 -- ---- the first no of a list
 
@@ -26,13 +26,13 @@ first-no n (true ∷ bs) k h =
     (suc (q .0), omega (arith, q .1), record { here = q .2 .here; not-before = before (q .2 .not-before) })
   where
     before : {i : ℕ} → ((j : ℕ) → j < i → getElem? bs j ≡ some false → ⊥) → (j : ℕ) → j < suc i → getElem? (true ∷ bs) j ≡ some false → ⊥
-    before f zero l x = true-false (some-inj x)
+    before f zero l x = absurd (true≢false (some-inj x))
     before f (suc j) l x = f j (omega arith) x
 
 none-no : (n : ℕ) (bs : List Bool) → firstNo n bs ≡ none → (j : ℕ) → getElem? bs j ≡ some false → ⊥
 none-no n [] h j x = none-some x
 none-no n (false ∷ bs) h j x = none-some (sym h)
-none-no n (true ∷ bs) h zero x = true-false (some-inj x)
+none-no n (true ∷ bs) h zero x = absurd (true≢false (some-inj x))
 none-no n (true ∷ bs) h (suc j) x = none-no (n + 1) bs h j x
 
 -- ---- what is reported

@@ -1,7 +1,7 @@
 -- The yes and no of each place, and the places where a watch fails: the same. Assumes nothing.
 use Prim.Native.Nat.{ℕ, zero, suc}
 use mathlib.Core.Path.{_≡_, refl}
-use mathlib.Core.Bool.{Bool, true, false}
+use mathlib.Core.Bool.{Bool, true, false, true≢false}
 use mathlib.Core.List.{List, [], _∷_}
 use mathlib.Core.Option.{Option, none, some}
 use native.Mathlib.Omega.{arith}
@@ -14,9 +14,6 @@ use Rattle.watching.specs.Failing.{PreviousAt, Unheld, false-there, refu
 
 -- ---- one condition, and a pair of them
 
-pub true-false : {X : Type 0} → true ≡ false → X
-true-false e = let z : _≡_ {A = ℕ} 0 1 = cc in let f : ⊥ = omega arith in absurd f
-
 pub none-some : {X A : Type 0} {a : A} → _≡_ {A = Option A} none (some a) → X
 none-some e = let z : _≡_ {A = ℕ} 0 1 = cc in let f : ⊥ = omega arith in absurd f
 
@@ -24,7 +21,7 @@ pub some-inj : {A : Type 0} {a b : A} → some a ≡ some b → a ≡ b
 some-inj e = cc
 
 no-unheld : (o : Outcome Bool) → isYes o ≡ false → Unheld o
-no-unheld (ok true) h = true-false h
+no-unheld (ok true) h = absurd (true≢false h)
 no-unheld (ok false) h = false-there refl
 no-unheld (refusal k) h = refused-there k refl
 
@@ -34,10 +31,10 @@ unheld-no o (refused-there k e) = rw e
 
 no-broken : (o p : Outcome Bool) → isYes (implied o p) ≡ false → Unkept o p
 no-broken (refusal k) p h = first-refused k refl
-no-broken (ok true) (ok true) h = true-false h
+no-broken (ok true) (ok true) h = absurd (true≢false h)
 no-broken (ok true) (ok false) h = not-kept refl refl
 no-broken (ok true) (refusal k) h = second-refused k refl
-no-broken (ok false) (ok b) h = true-false h
+no-broken (ok false) (ok b) h = absurd (true≢false h)
 no-broken (ok false) (refusal k) h = second-refused k refl
 
 second-no : (o : Outcome Bool) (k : ℕ) → isYes (implied o (refusal k)) ≡ false
@@ -135,7 +132,7 @@ no-fails c (some d) [] m h = none-some h
 no-fails c none (s ∷ ts) m h =
     let q = no-alone c s (s ∷ ts) m h in
     record { previous = q .previous; current = q .current; is-previous = previous-in s ts m _ (q .is-previous); is-current = q .is-current; unheld = q .unheld }
-no-fails c (some d) (s ∷ ts) zero h = true-false (some-inj h)
+no-fails c (some d) (s ∷ ts) zero h = absurd (true≢false (some-inj h))
 no-fails c (some d) (s ∷ ts) (suc m) h =
     let q = no-over c d s s ts m h in
     record { previous = q .previous; current = q .current; next = q .next; is-previous = previous-in s ts m _ (q .is-previous); is-current = q .is-current; is-next = q .is-next; broken = q .broken }

@@ -43,8 +43,7 @@ returns : tie.Need-returns Inv-loop μ-loop
 returns c =
     let at-loop-test = c .before .before .before .before .before in
     let at-loop = at-loop-test .before in
-    let start = at-loop .before .before .before .before in
-    part-differs _ _ _ _ (start .pre .0) _ _ _ (at-loop .loop .inv) (at-loop-test .loop-test .taken) _ (c .before .before .compare-part .ensures) (ap comparedOf (c .enum-told .given .1))
+    part-differs _ _ _ _ (at-loop .before .before .before .before .pre .0) _ _ _ (at-loop .loop .inv) (at-loop-test .loop-test .taken) _ (c .before .before .compare-part .ensures) (ap comparedOf (c .enum-told .given .1))
 
 add-i : tie.Need-add-i Inv-loop μ-loop
 add-i c =
@@ -55,8 +54,7 @@ add-i c =
 compare-sign-requires : tie.Need-compare-sign-requires Inv-loop μ-loop
 compare-sign-requires c κs =
     let at-loop = c .before .before .before .before .before .before .before .before in
-    let start = at-loop .before .before .before .before in
-    separator-known (at-loop .loop .i + 1) (start .args .count) _ (c .separator .ensures)
+    separator-known (at-loop .loop .i + 1) (at-loop .before .before .before .before .args .count) _ (c .separator .ensures)
 
 returns-2 : tie.Need-returns-2 Inv-loop μ-loop
 returns-2 c =
@@ -64,8 +62,7 @@ returns-2 c =
     let at-compare-part = at-part .before .before in
     let at-loop-test = at-compare-part .before .before .before in
     let at-loop = at-loop-test .before in
-    let start = at-loop .before .before .before .before in
-    sign-differs _ _ _ _ (start .pre .0) _ _ _ (at-loop .loop .inv) (at-loop-test .loop-test .taken) _ (at-compare-part .compare-part .ensures) (ap comparedOf (at-part .part .given .1)) _ (c .before .before .before .separator .ensures) (c .before .before .compare-sign .ensures) _ (ap comparedOf (c .enum-told2 .given .1))
+    sign-differs _ _ _ _ (at-loop .before .before .before .before .pre .0) _ _ _ (at-loop .loop .inv) (at-loop-test .loop-test .taken) _ (at-compare-part .compare-part .ensures) (ap comparedOf (at-part .part .given .1)) _ (c .before .before .before .separator .ensures) (c .before .before .compare-sign .ensures) _ (ap comparedOf (c .enum-told2 .given .1))
 
 loop-less : tie.Need-loop-less Inv-loop μ-loop
 loop-less c = omega (arith, c .before .before .before .before .before .before .before .before .before .before .before .loop-test .taken)
@@ -77,8 +74,7 @@ loop-again c =
     let at-compare-part = at-part .before .before in
     let at-loop-test = at-compare-part .before .before .before in
     let at-loop = at-loop-test .before in
-    let start = at-loop .before .before .before .before in
-    next-part _ _ _ _ (start .pre .0) _ _ _ (at-loop .loop .inv) (at-loop-test .loop-test .taken) _ (at-compare-part .compare-part .ensures) (ap comparedOf (at-part .part .given .1)) _ (at-separator .separator .ensures) (c .before .before .before .compare-sign .ensures) _ (ap comparedOf (c .before .sign .given .1))
+    next-part _ _ _ _ (at-loop .before .before .before .before .pre .0) _ _ _ (at-loop .loop .inv) (at-loop-test .loop-test .taken) _ (at-compare-part .compare-part .ensures) (ap comparedOf (at-part .part .given .1)) _ (at-separator .separator .ensures) (c .before .before .before .compare-sign .ensures) _ (ap comparedOf (c .before .sign .given .1))
 
 returns-3 : tie.Need-returns-3 Inv-loop μ-loop
 returns-3 c = compared _ _ _ _ (c .before .before .before .before .before .before .pre .0) _ _ _ (c .before .before .loop .inv) (ap comparedOf (c .reached .ensures)) (c .before .loop-test .left)

@@ -14,14 +14,12 @@ returns c = ap comparedOf (c .enum-told .given .1) ∙ sign-fault _ _ _ _ (is-fa
 returns-2 : tie.Need-returns-2
 returns-2 c =
     let at-found = c .before .before .before .before in
-    let at-token-at = at-found .before .before in
-    ap comparedOf (c .reached .ensures) ∙ sign-wanted _ _ _ _ _ _ (is-token _ _ _ (at-token-at .token-at .ensures) _ (at-found .found .given .1) .0) (same-kinds _ _ (c .before .if1 .taken))
+    ap comparedOf (c .reached .ensures) ∙ sign-wanted _ _ _ _ _ _ (is-token _ _ _ (at-found .before .before .token-at .ensures) _ (at-found .found .given .1) .0) (same-kinds _ _ (c .before .if1 .taken))
 
 returns-3 : tie.Need-returns-3
 returns-3 c =
     let at-token-at = c .before .before .before .before .before in
-    let start = at-token-at .before .before in
-    let t = is-token _ _ _ (at-token-at .token-at .ensures) _ (c .before .before .before .found .given .1) in sign-other _ _ _ _ _ _ (t .0) (other-kinds _ _ (t .1 .known-kind) (start .pre) (c .if1 .left))
+    let t = is-token _ _ _ (at-token-at .token-at .ensures) _ (c .before .before .before .found .given .1) in sign-other _ _ _ _ _ _ (t .0) (other-kinds _ _ (t .1 .known-kind) (at-token-at .before .before .pre) (c .if1 .left))
 
 pub compare-sign-spec : {M : Type 1} → statement M
 compare-sign-spec =

@@ -28,15 +28,13 @@ returns-2 c =
     let at-wanted = c .before .before .before .before in
     let at-token-at = at-wanted .before .before in
     let at-loop-test = at-token-at .before in
-    let at-loop = at-loop-test .before in
     ap comparedOf (c .enum-told2 .given .1)
-    ∙ found-fault _ _ _ _ _ _ (at-loop .loop .inv) (at-loop-test .loop-test .taken) _ _ _ (is-token _ _ _ (at-token-at .token-at .ensures) _ (at-wanted .wanted .given .1) .0) _ (is-fault _ _ _ (c .before .before .token-at2 .ensures) _ _ (c .enum-told2 .given .1) .0)
+    ∙ found-fault _ _ _ _ _ _ (at-loop-test .before .loop .inv) (at-loop-test .loop-test .taken) _ _ _ (is-token _ _ _ (at-token-at .token-at .ensures) _ (at-wanted .wanted .given .1) .0) _ (is-fault _ _ _ (c .before .before .token-at2 .ensures) _ _ (c .enum-told2 .given .1) .0)
 
 same-token-requires : tie.Need-same-token-requires Inv-loop μ-loop
 same-token-requires c κs =
     let at-wanted = c .before .before .before .before .before in
-    let at-token-at = at-wanted .before .before in
-    ((is-token _ _ _ (at-token-at .token-at .ensures) _ (at-wanted .wanted .given .1)) .1 .known-kind, (is-token _ _ _ (c .before .before .before .token-at2 .ensures) _ (c .before .found .given .1)) .1 .known-kind)
+    ((is-token _ _ _ (at-wanted .before .before .token-at .ensures) _ (at-wanted .wanted .given .1)) .1 .known-kind, (is-token _ _ _ (c .before .before .before .token-at2 .ensures) _ (c .before .found .given .1)) .1 .known-kind)
 
 loop-less : tie.Need-loop-less Inv-loop μ-loop
 loop-less c =
@@ -64,10 +62,9 @@ returns-3 c =
     let at-wanted = at-token-at2 .before .before in
     let at-token-at = at-wanted .before .before in
     let at-loop-test = at-token-at .before in
-    let at-loop = at-loop-test .before in
     let w = is-token _ _ _ (at-token-at .token-at .ensures) _ (at-wanted .wanted .given .1) in
     let f = is-token _ _ _ (at-token-at2 .token-at2 .ensures) _ (c .before .before .before .found .given .1) in
-    unmatched _ _ _ _ _ _ (at-loop .loop .inv) (at-loop-test .loop-test .taken) _ _ _ (w .0) _ _ _ (f .0) (sym (c .before .same-token .ensures) ∙ c .if1 .left)
+    unmatched _ _ _ _ _ _ (at-loop-test .before .loop .inv) (at-loop-test .loop-test .taken) _ _ _ (w .0) _ _ _ (f .0) (sym (c .before .same-token .ensures) ∙ c .if1 .left)
 
 returns-4 : tie.Need-returns-4 Inv-loop μ-loop
 returns-4 c = ap comparedOf (c .reached .ensures) ∙ matched _ _ _ _ _ _ (c .before .before .loop .inv) (c .before .loop-test .left)

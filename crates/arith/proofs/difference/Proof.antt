@@ -7,12 +7,6 @@ use Rattle.arith.proofs.Laws.{widens, sub-fits, op-fits, op-is}
 use Rattle.arith.proofs.difference.Statement.{statement}
 use Rattle.arith.proofs.difference.Tie as tie
 
-cast-x : tie.Need-cast-x
-cast-x c = widens (c .fits .a)
-
-cast-y : tie.Need-cast-y
-cast-y c = widens (c .fits .b)
-
 sub-narrow : tie.Need-sub-narrow
 sub-narrow c = let f = c .fits in op-fits _-ℤ_ (f .a) (f .b) (sub-fits (f .a) (f .b))
 
@@ -21,4 +15,4 @@ unfolding arithmetic
 returns c = let f = c .before .fits in c .narrow .ensures ∙ ap int32 (op-is _-ℤ_ (f .a) (f .b) (sub-fits (f .a) (f .b)))
 
 pub difference-spec : {M : Type 1} → statement M
-difference-spec = tie.close (tie.spec cast-x cast-y sub-narrow (λ c κs. search needs) returns)
+difference-spec = tie.close (tie.spec (λ c. widens (c .fits .a)) (λ c. widens (c .fits .b)) sub-narrow (λ c κs. search needs) returns)

@@ -8,9 +8,6 @@ use Rattle.arith.proofs.Laws.{widens, widened, neg-fits}
 use Rattle.arith.proofs.negated.Statement.{statement}
 use Rattle.arith.proofs.negated.Tie as tie
 
-cast-x : tie.Need-cast-x
-cast-x c = widens (c .fits .a)
-
 sub-narrow : tie.Need-sub-narrow
 sub-narrow c = rw (widened (c .fits .a), +ℤ-idl) (neg-fits (c .fits .a) (c .fits .a))
 
@@ -21,4 +18,4 @@ returns c =
     rw (c .narrow .ensures, widened f, +ℤ-idl, toZ-ofZ {w = w64} (neg-fits f f))
 
 pub negated-spec : {M : Type 1} → statement M
-negated-spec = tie.close (tie.spec cast-x sub-narrow (λ c κs. search needs) returns)
+negated-spec = tie.close (tie.spec (λ c. widens (c .fits .a)) sub-narrow (λ c κs. search needs) returns)

@@ -7,12 +7,6 @@ use Rattle.arith.proofs.Laws.{widens, mul-fits, op-fits, op-is}
 use Rattle.arith.proofs.product.Statement.{statement}
 use Rattle.arith.proofs.product.Tie as tie
 
-cast-x : tie.Need-cast-x
-cast-x c = widens (c .fits .a)
-
-cast-y : tie.Need-cast-y
-cast-y c = widens (c .fits .b)
-
 mul-narrow : tie.Need-mul-narrow
 mul-narrow c = let f = c .fits in op-fits _*ℤ_ (f .a) (f .b) (mul-fits (f .a) (f .b))
 
@@ -21,4 +15,4 @@ unfolding arithmetic
 returns c = let f = c .before .fits in c .narrow .ensures ∙ ap int32 (op-is _*ℤ_ (f .a) (f .b) (mul-fits (f .a) (f .b)))
 
 pub product-spec : {M : Type 1} → statement M
-product-spec = tie.close (tie.spec cast-x cast-y mul-narrow (λ c κs. search needs) returns)
+product-spec = tie.close (tie.spec (λ c. widens (c .fits .a)) (λ c. widens (c .fits .b)) mul-narrow (λ c κs. search needs) returns)

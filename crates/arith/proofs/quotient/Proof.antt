@@ -8,19 +8,12 @@ use Rattle.arith.proofs.Laws.{widens, quot-fits, op-fits, op-is, zero-b
 use Rattle.arith.proofs.quotient.Statement.{statement}
 use Rattle.arith.proofs.quotient.Tie as tie
 
-cast-x : tie.Need-cast-x
-cast-x c = widens (c .fits .a)
-
-cast-y : tie.Need-cast-y
-cast-y c = widens (c .fits .b)
-
 returns : tie.Need-returns
 returns c = rw (zero-bits (c .before .fits .b) (c .if1 .taken)) (sym (quotient-by-zero (c .before .args .a)))
 
 div-narrow : tie.Need-div-narrow
 div-narrow c =
     let f = c .before .fits in
-    let n = c .if1 .left in
     (omega arith, op-fits quotZ (f .a) (f .b) (quot-fits (f .a) (f .b)))
 
 returns-2 : tie.Need-returns-2
@@ -33,4 +26,4 @@ returns-2 c =
     ∙ sym (by-nonzero (s .args .b) (λ d. int32 (quotZ (s .args .a) d)) (nonzero-bits (f .b) (c .before .if1 .left)))
 
 pub quotient-spec : {M : Type 1} → statement M
-quotient-spec = tie.close (tie.spec cast-x cast-y returns div-narrow (λ c κs. search needs) returns-2)
+quotient-spec = tie.close (tie.spec (λ c. widens (c .fits .a)) (λ c. widens (c .fits .b)) returns div-narrow (λ c κs. search needs) returns-2)

@@ -8,19 +8,12 @@ use Rattle.arith.proofs.Laws.{widens, quot-fits, rem-fits, op-fits, op-
 use Rattle.arith.proofs.remainder.Statement.{statement}
 use Rattle.arith.proofs.remainder.Tie as tie
 
-cast-x : tie.Need-cast-x
-cast-x c = widens (c .fits .a)
-
-cast-y : tie.Need-cast-y
-cast-y c = widens (c .fits .b)
-
 returns : tie.Need-returns
 returns c = rw (zero-bits (c .before .fits .b) (c .if1 .taken)) (sym (remainder-by-zero (c .before .args .a)))
 
 rem-narrow : tie.Need-rem-narrow
 rem-narrow c =
     let f = c .before .fits in
-    let n = c .if1 .left in
     (omega arith, op-fits quotZ (f .a) (f .b) (quot-fits (f .a) (f .b)))
 
 returns-2 : tie.Need-returns-2
@@ -32,4 +25,4 @@ returns-2 c =
     c .narrow .ensures ∙ ap int32 (op-is remZ (f .a) (f .b) (rem-fits (f .a) (f .b)) ∙ remainder-is (s .args .a) (s .args .b) n)
 
 pub remainder-spec : {M : Type 1} → statement M
-remainder-spec = tie.close (tie.spec cast-x cast-y returns rem-narrow (λ c κs. search needs) returns-2)
+remainder-spec = tie.close (tie.spec (λ c. widens (c .fits .a)) (λ c. widens (c .fits .b)) returns rem-narrow (λ c κs. search needs) returns-2)

@@ -7,12 +7,6 @@ use Rattle.arith.proofs.Laws.{widens, add-fits, op-fits, op-is}
 use Rattle.arith.proofs.sum.Statement.{statement}
 use Rattle.arith.proofs.sum.Tie as tie
 
-cast-x : tie.Need-cast-x
-cast-x c = widens (c .fits .a)
-
-cast-y : tie.Need-cast-y
-cast-y c = widens (c .fits .b)
-
 add-narrow : tie.Need-add-narrow
 add-narrow c = let f = c .fits in op-fits _+ℤ_ (f .a) (f .b) (add-fits (f .a) (f .b))
 
@@ -21,4 +15,4 @@ unfolding arithmetic
 returns c = let f = c .before .fits in c .narrow .ensures ∙ ap int32 (op-is _+ℤ_ (f .a) (f .b) (add-fits (f .a) (f .b)))
 
 pub sum-spec : {M : Type 1} → statement M
-sum-spec = tie.close (tie.spec cast-x cast-y add-narrow (λ c κs. search needs) returns)
+sum-spec = tie.close (tie.spec (λ c. widens (c .fits .a)) (λ c. widens (c .fits .b)) add-narrow (λ c κs. search needs) returns)

@@ -50,9 +50,6 @@ known c =
       ranges = ranges-stored (cells (shapeIn (c .before .before .before .before .before .before .before .before .before .before .args .image .now))) (c .before .before .shaped2 .given .0 .0 .size) (c .before .before .before .before .before .before .before .before .before .before .args .low .now) (c .before .before .before .before .before .before .shape .last .1 .0) (c .before .before .before .before .before .before .before .before .before .before .args .high .now) (c .before .before .before .before .before .before .shape .last .1 .1 .0) (sym (x .size-is)) (omega (arith, low-room c, c .before .before .before .before .before .before .shape .kept .1 .0)) (omega (arith, high-room c, c .before .before .before .before .before .before .shape .kept .1 .1 .0)) (x .lower) (x .upper);
     }
 
-slice-reshare-prefix-before-known : tie.Need-slice-reshare-prefix-before-known
-slice-reshare-prefix-before-known c = low-room c
-
 slice-reshare-prefix-before-known-2 : tie.Need-slice-reshare-prefix-before-known-2
 slice-reshare-prefix-before-known-2 c = high-room (c .before)
 
@@ -97,6 +94,6 @@ pub before-code-spec : {M : Type 1} → statement M
 before-code-spec =
     tie.close
     (tie.spec (λ c κs. search needs) (λ c. search needs) (λ c. search needs) (λ c. search needs) (λ c. search needs) returns
-    slice-reshare-prefix-before-known slice-aggregate-before-known slice-reshare-prefix-before-known-2 slice-aggregate-before-known-2
+    (λ c. low-room c) slice-aggregate-before-known slice-reshare-prefix-before-known-2 slice-aggregate-before-known-2
     slice-relend-prefix-before-known slice-aggregate-before-known-3 before-known-requires (λ c. search needs) (λ c. search needs) returns-2
     (λ c. search needs) (λ c. search needs) (λ c. search needs) returns-3)

@@ -17,8 +17,7 @@ returns-2 c = (sym (many-inputs _ _ _ (sym (c .before .before .before .before .u
 returns-3 : tie.Need-returns-3
 returns-3 c =
     let at-inputs = c .before .before .before .before .before in
-    let at-unsigned-at = at-inputs .before .before in
-    let e₁ = sym (at-unsigned-at .unsigned-at .ensures) ∙ ap unsignedRead (at-inputs .inputs .given .1) in
+    let e₁ = sym (at-inputs .before .before .unsigned-at .ensures) ∙ ap unsignedRead (at-inputs .inputs .given .1) in
     (sym (no-variables _ _ _ e₁ (c .before .before .before .if1 .left) (sym (c .before .before .unsigned-at2 .ensures) ∙ ap unsignedRead (c .enum-told2 .given .1))), number-within _ _ _ _ e₁ .inside)
 
 add-names : tie.Need-add-names
@@ -30,8 +29,7 @@ returns-4 : tie.Need-returns-4
 returns-4 c =
     let at-if1 = c .before .before .before .before .before in
     let at-inputs = at-if1 .before .before in
-    let at-unsigned-at = at-inputs .before .before in
-    let e₁ = sym (at-unsigned-at .unsigned-at .ensures) ∙ ap unsignedRead (at-inputs .inputs .given .1) in
+    let e₁ = sym (at-inputs .before .before .unsigned-at .ensures) ∙ ap unsignedRead (at-inputs .inputs .given .1) in
     (sym (many-names _ _ _ e₁ (at-if1 .if1 .left) _ _ (sym (c .before .before .before .before .unsigned-at2 .ensures) ∙ ap unsignedRead (c .before .before .variables .given .1)) (c .if2 .taken)), number-within _ _ _ _ e₁ .inside)
 
 returns-5 : tie.Need-returns-5

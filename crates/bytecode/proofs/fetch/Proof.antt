@@ -11,9 +11,6 @@ use Rattle.bytecode.proofs.Codes.{listed-alone, listed-number}
 use Rattle.bytecode.proofs.fetch.Statement.{statement}
 use Rattle.bytecode.proofs.fetch.Tie as tie
 
-returns : tie.Need-returns
-returns c = (sym (fetch-end _ _ (c .if1 .taken)), tt)
-
 returns-2 : tie.Need-returns-2
 returns-2 c = (sym (timer-fetched _ _ (c .before .before .before .if2 .taken) ∙ (sym (c .before .before .timer-at .ensures .0) ∙ ap operandsRead (c .enum-told .given .1))), tt)
 
@@ -56,5 +53,5 @@ returns-8 c =
 pub fetch-spec : {M : Type 1} → statement M
 fetch-spec =
     tie.close
-    (tie.spec returns (λ c. search needs) (λ c. search needs) (λ c κs. search needs) (λ c. search needs) (λ c. search needs) returns-2 returns-3 (λ c κs. search needs) (λ c κs. search needs) (λ c. search needs)
+    (tie.spec (λ c. (sym (fetch-end _ _ (c .if1 .taken)), tt)) (λ c. search needs) (λ c. search needs) (λ c κs. search needs) (λ c. search needs) (λ c. search needs) returns-2 returns-3 (λ c κs. search needs) (λ c κs. search needs) (λ c. search needs)
     (λ c. search needs) returns-4 returns-5 returns-6 returns-7 returns-8)

@@ -15,9 +15,6 @@ Inv-loop code table₀ at₀ table at = Limiting code table₀ at table
 abbrev μ-loop : tie.MeasureT-loop
 μ-loop code table₀ at₀ table at = length code - at
 
-loop-holds : tie.Need-loop-holds Inv-loop μ-loop
-loop-holds c = limiting-begins _ _
-
 loop-less : tie.Need-loop-less Inv-loop μ-loop
 loop-less c = let b = subst (FetchedWithin (length (c .before .before .before .before .before .before .before .before .args .code .now)) (c .before .before .before .before .before .loop .at)) (c .before .next .given .1) (c .before .before .before .fetch .ensures .1) in omega (arith, b .behind, c .before .before .before .before .loop-test .taken)
 
@@ -45,4 +42,4 @@ returns-2 c = limiting-ends (c .before .loop .inv) (c .loop-test .left)
 pub timer-limits-spec : {M : Type 1} → statement M
 timer-limits-spec =
     tie.close
-    (tie.spec Inv-loop μ-loop loop-holds (λ c κs. search needs) (λ c. search needs) loop-less loop-again (λ c. search needs) (λ c κs. search needs) loop-less-2 loop-again-2 (λ c. search needs) same-length returns same-length-2 returns-2)
+    (tie.spec Inv-loop μ-loop (λ c. limiting-begins _ _) (λ c κs. search needs) (λ c. search needs) loop-less loop-again (λ c. search needs) (λ c κs. search needs) loop-less-2 loop-again-2 (λ c. search needs) same-length returns same-length-2 returns-2)

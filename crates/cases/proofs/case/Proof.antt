@@ -26,9 +26,8 @@ returns c = λ from. not-read (c .before .before .before .before .listed .ensure
 returns-2 : tie.Need-returns-2
 returns-2 c =
     let at-first = c .before .before .before .before in
-    let at-listed = at-first .before .before .before .before in
     λ from.
-    let l = accepted-by (at-listed .listed .ensures) (at-first .first .given .1) in
+    let l = accepted-by (at-first .before .before .before .before .listed .ensures) (at-first .first .given .1) in
     not-expected (c .before .before .case-value-opening .ensures) (c .enum-told2 .given .1) (opening-refused _ _ from _ (l .is))
 
 put-byte-requires : tie.Need-put-byte-requires
@@ -62,9 +61,8 @@ returns-3 c =
     let at-opened = at-whole-expression .before .before .before .before .before .before .before in
     let at-case-value-opening = at-opened .before .before in
     let at-first = at-case-value-opening .before .before in
-    let at-listed = at-first .before .before .before .before in
     λ from.
-    let l = accepted-by (at-listed .listed .ensures) (at-first .first .given .1) in
+    let l = accepted-by (at-first .before .before .before .before .listed .ensures) (at-first .first .given .1) in
     let p = found (at-case-value-opening .case-value-opening .ensures) (at-opened .opened .given .1) in
     not-read (at-whole-expression .whole-expression .ensures) (c .enum-told3 .given .1) (value-refused _ _ from _ (l .is) p)
 
@@ -72,8 +70,7 @@ same-length-4 : tie.Need-same-length-4
 same-length-4 c =
     let at-whole-expression = c .before .before .before .before .before .before .before .before in
     let at-put-byte = at-whole-expression .before .before .before .before in
-    let at-listed = at-put-byte .before .before .before .before .before .before .before .before .before .before .before in
-    at-whole-expression .whole-expression .kept .1 .1 .1 .1 .1 .0 ∙ at-put-byte .put-byte .kept .0 ∙ at-listed .listed .kept .1 .1 .1 .1 .1 .0
+    at-whole-expression .whole-expression .kept .1 .1 .1 .1 .1 .0 ∙ at-put-byte .put-byte .kept .0 ∙ (at-put-byte .before .before .before .before .before .before .before .before .before .before .before) .listed .kept .1 .1 .1 .1 .1 .0
 
 returns-4 : tie.Need-returns-4
 unfolding kindOf
@@ -83,9 +80,8 @@ returns-4 c =
     let at-opened = at-whole-expression .before .before .before .before .before .before .before in
     let at-case-value-opening = at-opened .before .before in
     let at-first = at-case-value-opening .before .before in
-    let at-listed = at-first .before .before .before .before in
     λ from.
-    let l = accepted-by (at-listed .listed .ensures) (at-first .first .given .1) in
+    let l = accepted-by (at-first .before .before .before .before .listed .ensures) (at-first .first .given .1) in
     let p = found (at-case-value-opening .case-value-opening .ensures) (at-opened .opened .given .1) in
     let v = accepted-by (at-whole-expression .whole-expression .ensures) (at-second .second .given .1) in
     not-expected (c .before .before .expect .ensures) (c .enum-told4 .given .1) (closing-refused _ _ from _ (l .is) p (v .is))
@@ -114,8 +110,7 @@ same-length-5 : tie.Need-same-length-5
 same-length-5 c =
     let at-whole-expression = c .before .before .before .before .before .before .before .before .before .before .before .before .before .before in
     let at-put-byte = at-whole-expression .before .before .before .before in
-    let at-listed = at-put-byte .before .before .before .before .before .before .before .before .before .before .before in
-    c .before .before .before .put-instruction .kept .0 ∙ at-whole-expression .whole-expression .kept .1 .1 .1 .1 .1 .0 ∙ at-put-byte .put-byte .kept .0 ∙ at-listed .listed .kept .1 .1 .1 .1 .1 .0
+    c .before .before .before .put-instruction .kept .0 ∙ at-whole-expression .whole-expression .kept .1 .1 .1 .1 .1 .0 ∙ at-put-byte .put-byte .kept .0 ∙ (at-put-byte .before .before .before .before .before .before .before .before .before .before .before) .listed .kept .1 .1 .1 .1 .1 .0
 
 returns-5 : tie.Need-returns-5
 unfolding kindOf
@@ -128,9 +123,8 @@ returns-5 c =
     let at-opened = at-put-byte .before .before .before in
     let at-case-value-opening = at-opened .before .before in
     let at-first = at-case-value-opening .before .before in
-    let at-listed = at-first .before .before .before .before in
     λ from.
-    let l = accepted-by (at-listed .listed .ensures) (at-first .first .given .1) in
+    let l = accepted-by (at-first .before .before .before .before .listed .ensures) (at-first .first .given .1) in
     let p = found (at-case-value-opening .case-value-opening .ensures) (at-opened .opened .given .1) in
     let v = accepted-by (at-whole-expression .whole-expression .ensures) (at-second .second .given .1) in
     let q = found (at-expect .expect .ensures) (at-closed .closed .given .1) in

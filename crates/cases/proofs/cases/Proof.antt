@@ -54,9 +54,8 @@ returns-2 : tie.Need-returns-2 Inv-loop μ-loop
 unfolding kindOf
 returns-2 c =
     let at-token-at = c .before .before .before .before .before in
-    let at-loop = at-token-at .before in
     let f = found-token _ _ (at-token-at .token-at .ensures) (c .before .before .before .read .given .1) in
-    casing-other (at-loop .loop .inv .0) f (other-kinds _ _ (f .lies .known-kind) (omega arith) (c .if1 .taken))
+    casing-other (at-token-at .before .loop .inv .0) f (other-kinds _ _ (f .lies .known-kind) (omega arith) (c .if1 .taken))
 
 same-length-7 : tie.Need-same-length-7 Inv-loop μ-loop
 same-length-7 c = c .before .before .before .before .before .before .before .loop .inv .1
@@ -72,10 +71,9 @@ unfolding kindOf
 returns-3 c =
     let at-read = c .before .before .before .before in
     let at-token-at = at-read .before .before in
-    let at-loop = at-token-at .before in
     let f = found-token _ _ (at-token-at .token-at .ensures) (at-read .read .given .1) in
     let i = same-kinds _ 19 (c .before .if1 .left) in
-    casing-full (at-loop .loop .inv .0) f i (c .if2 .taken)
+    casing-full (at-token-at .before .loop .inv .0) f i (c .if2 .taken)
 
 case-requires : tie.Need-case-requires Inv-loop μ-loop
 unfolding kindOf
@@ -97,8 +95,7 @@ same-length-11 c = c .before .before .before .before .before .before .before .be
 same-length-12 : tie.Need-same-length-12 Inv-loop μ-loop
 same-length-12 c =
     let at-case = c .before .before .before .before in
-    let at-loop = at-case .before .before .before .before .before .before .before .before .before in
-    at-case .case .kept .1 .1 .1 .1 .1 .1 .1 .0 ∙ at-loop .loop .inv .3
+    at-case .case .kept .1 .1 .1 .1 .1 .1 .1 .0 ∙ (at-case .before .before .before .before .before .before .before .before .before) .loop .inv .3
 
 returns-4 : tie.Need-returns-4 Inv-loop μ-loop
 unfolding kindOf
@@ -122,8 +119,7 @@ same-length-14 c = simp length-set (c .before .before .before .before .before .b
 same-length-15 : tie.Need-same-length-15 Inv-loop μ-loop
 same-length-15 c =
     let at-case = c .before .before .before .before .before .before .before .before in
-    let at-loop = at-case .before .before .before .before .before .before .before .before .before in
-    at-case .case .kept .1 .1 .1 .1 .1 .1 .1 .0 ∙ at-loop .loop .inv .3
+    at-case .case .kept .1 .1 .1 .1 .1 .1 .1 .0 ∙ (at-case .before .before .before .before .before .before .before .before .before) .loop .inv .3
 
 returns-5 : tie.Need-returns-5 Inv-loop μ-loop
 unfolding kindOf
@@ -149,8 +145,7 @@ same-length-17 c = simp length-set (c .before .before .before .before .before .b
 same-length-18 : tie.Need-same-length-18 Inv-loop μ-loop
 same-length-18 c =
     let at-case = c .before .before .before .before .before .before .before .before .before .before .before .before in
-    let at-loop = at-case .before .before .before .before .before .before .before .before .before in
-    at-case .case .kept .1 .1 .1 .1 .1 .1 .1 .0 ∙ at-loop .loop .inv .3
+    at-case .case .kept .1 .1 .1 .1 .1 .1 .1 .0 ∙ (at-case .before .before .before .before .before .before .before .before .before) .loop .inv .3
 
 returns-6 : tie.Need-returns-6 Inv-loop μ-loop
 unfolding kindOf
@@ -174,8 +169,7 @@ returns-6 c =
 loop-less : tie.Need-loop-less Inv-loop μ-loop
 loop-less c =
     let at-if2 = c .before .before .before .before .before .before .before .before .before .before .before .before .before in
-    let at-loop = at-if2 .before .before .before .before .before .before .before in
-    omega (arith, at-loop .loop .inv .0 .few, at-if2 .if2 .left)
+    omega (arith, at-if2 .before .before .before .before .before .before .before .loop .inv .0 .few, at-if2 .if2 .left)
 
 loop-again : tie.Need-loop-again Inv-loop μ-loop
 unfolding kindOf

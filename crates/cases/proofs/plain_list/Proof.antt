@@ -31,18 +31,16 @@ unfolding kindOf
 returns-2 c =
     let at-read = c .before .before .before in
     let at-token-at = at-read .before .before in
-    let at-loop = at-token-at .before in
     let f = found-token _ _ (at-token-at .token-at .ensures) (at-read .read .given .1) in
-    listing-other (at-loop .loop .inv .0) f (other-kinds _ _ (f .lies .known-kind) (omega arith) (c .if1 .taken))
+    listing-other (at-token-at .before .loop .inv .0) f (other-kinds _ _ (f .lies .known-kind) (omega arith) (c .if1 .taken))
 
 returns-3 : tie.Need-returns-3 Inv-loop μ-loop
 unfolding kindOf
 returns-3 c =
     let at-read = c .before .before .before .before in
     let at-token-at = at-read .before .before in
-    let at-loop = at-token-at .before in
     let f = found-token _ _ (at-token-at .token-at .ensures) (at-read .read .given .1) in
-    listing-full (at-loop .loop .inv .0) f (same-kinds _ 19 (c .before .if1 .left)) (c .if2 .taken)
+    listing-full (at-token-at .before .loop .inv .0) f (same-kinds _ 19 (c .before .if1 .left)) (c .if2 .taken)
 
 slice-aggregate-listed : tie.Need-slice-aggregate-listed Inv-loop μ-loop
 slice-aggregate-listed c = sym (c .before .before .before .before .before .before .before .before .loop .inv .1)
@@ -52,9 +50,8 @@ listed-requires c κs =
     let at-read = c .before .before .before .before .before in
     let at-token-at = at-read .before .before in
     let at-loop = at-token-at .before in
-    let start = at-loop .before .before .before .before in
     let f = found-token _ _ (at-token-at .token-at .ensures) (at-read .read .given .1) in
-    (start .pre .0, listing-room (at-loop .loop .inv .0) f (c .before .if2 .left))
+    (at-loop .before .before .before .before .pre .0, listing-room (at-loop .loop .inv .0) f (c .before .if2 .left))
 
 returns-4 : tie.Need-returns-4 Inv-loop μ-loop
 unfolding kindOf
@@ -63,10 +60,9 @@ returns-4 c =
     let at-if1 = at-if2 .before in
     let at-read = at-if1 .before .before .before in
     let at-token-at = at-read .before .before in
-    let at-loop = at-token-at .before in
     let f = found-token _ _ (at-token-at .token-at .ensures) (at-read .read .given .1) in
     let i = same-kinds _ 19 (at-if1 .if1 .left) in
-    listing-refused (at-loop .loop .inv .0) f (at-if2 .if2 .left) i (c .enum-told2 .given .1) (refused-by (c .before .before .before .listed .ensures) (c .enum-told2 .given .1))
+    listing-refused (at-token-at .before .loop .inv .0) f (at-if2 .if2 .left) i (c .enum-told2 .given .1) (refused-by (c .before .before .before .listed .ensures) (c .enum-told2 .given .1))
 
 returns-5 : tie.Need-returns-5 Inv-loop μ-loop
 unfolding kindOf kindNumber
@@ -77,11 +73,10 @@ returns-5 c =
     let at-if1 = at-if2 .before in
     let at-read = at-if1 .before .before .before in
     let at-token-at = at-read .before .before in
-    let at-loop = at-token-at .before in
     let f = found-token _ _ (at-token-at .token-at .ensures) (at-read .read .given .1) in
     let i = same-kinds _ 19 (at-if1 .if1 .left) in
     let x = accepted-by (at-listed .listed .ensures) (at-one .one .given .1) in
-    c .expect .ensures ∙ sym (listing-last (at-loop .loop .inv .0) f (at-if2 .if2 .left) i x (c .before .if3 .taken))
+    c .expect .ensures ∙ sym (listing-last (at-token-at .before .loop .inv .0) f (at-if2 .if2 .left) i x (c .before .if3 .taken))
 
 loop-less : tie.Need-loop-less Inv-loop μ-loop
 loop-less c = omega (arith, c .before .before .before .before .before .before .before .before .if2 .left)
@@ -95,11 +90,10 @@ loop-again c =
     let at-read = at-if1 .before .before .before in
     let at-token-at = at-read .before .before in
     let at-loop = at-token-at .before in
-    let start = at-loop .before .before .before .before in
     let f = found-token _ _ (at-token-at .token-at .ensures) (at-read .read .given .1) in
     let i = same-kinds _ 19 (at-if1 .if1 .left) in
     let x = accepted-by (at-listed .listed .ensures) (c .before .before .before .one .given .1) in
-    (listing-more (at-loop .loop .inv .0) f (at-if2 .if2 .left) i x (few-names _ (start .pre .0)) (c .if3 .left), at-listed .listed .kept .1 .1 .1 .1 .1 .0 ∙ at-loop .loop .inv .1)
+    (listing-more (at-loop .loop .inv .0) f (at-if2 .if2 .left) i x (few-names _ (at-loop .before .before .before .before .pre .0)) (c .if3 .left), at-listed .listed .kept .1 .1 .1 .1 .1 .0 ∙ at-loop .loop .inv .1)
 
 pub plain-list-spec : {M : Type 1} → statement M
 plain-list-spec =

@@ -6,9 +6,6 @@ use Rattle.checker.proofs.Checking.{too-long, broken-header}
 use Rattle.checker.proofs.survey.Statement.{statement}
 use Rattle.checker.proofs.survey.Tie as tie
 
-returns : tie.Need-returns
-returns c = (too-long _ (c .if1 .taken), omega arith)
-
 survey-code-requires : tie.Need-survey-code-requires
 survey-code-requires c κs =
     let h = headed-stands (c .before .before .before .before .before .before .header .ensures) (c .before .inputs .given .1) in
@@ -22,5 +19,5 @@ returns-2 c =
 pub survey-spec : {M : Type 1} → statement M
 survey-spec =
     tie.close
-    (tie.spec returns (λ c. search needs) (λ c. search needs) (λ c. search needs) (λ c κs. search needs) (λ c. search needs) (λ c. search needs)
+    (tie.spec (λ c. (too-long _ (c .if1 .taken), omega arith)) (λ c. search needs) (λ c. search needs) (λ c. search needs) (λ c κs. search needs) (λ c. search needs) (λ c. search needs)
     survey-code-requires returns-2 (λ c. search needs))

@@ -4,9 +4,10 @@ use mathlib.Core.Path.{subst}
 use native.Mathlib.Omega.{arith}
 use lib.ListN.{length, take, drop, length-drop}
 use borrow.Author.Needs.{needs}
+use Rattle.leb128.proofs.Stores.{rest-of}
 use Rattle.checker.specs.Results.{VerdictWithin}
 use Rattle.checker.proofs.Walking.{initial-small}
-use Rattle.checker.proofs.Checking.{rest-of, walked-sound, walked-broken}
+use Rattle.checker.proofs.Checking.{walked-sound, walked-broken}
 use Rattle.checker.proofs.survey_code.Statement.{statement}
 use Rattle.checker.proofs.survey_code.Tie as tie
 
@@ -32,17 +33,5 @@ returns-2 c =
 pub survey-code-spec : {M : Type 1} → statement M
 survey-code-spec =
     tie.close
-    (tie.spec
-    (λ c. search needs)
-    (λ c. search needs)
-    (λ c. search needs)
-    (λ c κs. search needs)
-    walk-from-requires
-    (λ c. search needs)
-    (λ c. search needs)
-    add-t13
-    (λ c. search needs)
-    (λ c κs. search needs)
-    returns
-    returns-2
-    (λ c. search needs))
+    (tie.spec (λ c. search needs) (λ c. search needs) (λ c. search needs) (λ c κs. search needs) walk-from-requires (λ c. search needs)
+    (λ c. search needs) add-t13 (λ c. search needs) (λ c κs. search needs) returns returns-2 (λ c. search needs))

@@ -27,7 +27,6 @@ ahead-requires c κs = (c .before .loop .inv .small, c .loop-test .taken)
 returns-2 : tie.Need-returns-2 Inv-loop μ-loop
 returns-2 c =
     let b = subst (λ r. TakenBy (c .before .before .before .before .before .before .before .before .args .code .now) (c .before .before .before .before .before .before .loop .at) (c .before .before .before .before .before .before .loop .w) r) (c .before .before .enum-told .given .1) (c .before .before .before .before .ahead .ensures) in
-    let l = c .before .before .before .before .before .loop-test .taken in
     (judges-on _ _ _ _ _ (J.Broken (c .before .before .before .before .before .before .loop .at)) (c .before .before .before .before .before .before .loop .inv .walks) (b (c .if1 .left)), omega arith)
 
 loop-less : tie.Need-loop-less Inv-loop μ-loop

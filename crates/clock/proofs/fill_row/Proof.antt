@@ -14,9 +14,6 @@ use Rattle.clock.proofs.fill_row.Tie as tie
 time : (c : tie.After-offset-at) → Timed (entriesOf (c .before .before .before .before .args .table .now)) (c .before .before .before .before .args .utc) (c .offset-at .result)
 time c = timed _ _ _ (c .before .before .before .before .pre .1) (c .before .before .before .before .pre .2) (record { sfits = c .offset-at .ok }) (c .offset-at .ensures)
 
-add-time : tie.Need-add-time
-add-time c = time c .sum
-
 day-of-requires : tie.Need-day-of-requires
 day-of-requires c κs = time (c .before .before) .small
 
@@ -41,5 +38,5 @@ returns c =
 pub fill-row-spec : {M : Type 1} → statement M
 fill-row-spec =
     tie.close
-    (tie.spec (λ c κs. search needs) add-time (λ c. search needs) day-of-requires (λ c κs. search needs) (λ c. search needs)
+    (tie.spec (λ c κs. search needs) (λ c. time c .sum) (λ c. search needs) day-of-requires (λ c κs. search needs) (λ c. search needs)
     minute-of-requires (λ c κs. search needs) (λ c. search needs) again-of-requires (λ c κs. search needs) (λ c. search needs) returns)

@@ -7,9 +7,9 @@ use lib.ListN.{length, take, drop}
 use lib.Seq.{length-take-le}
 use Rattle.bytecode.specs.Parts.{headerOf, codeOf}
 use Rattle.bytecode.proofs.Limits.{cells-untimed}
-use Rattle.checker.proofs.Checking.{rest-of}
 use Rattle.shapes.specs.Results.{ShapedAs, Measures}
 use Rattle.before.proofs.Stored.{ranges-stored}
+use Rattle.leb128.proofs.Stores.{rest-of}
 use Rattle.closed.specs.Closed.{partIn}
 use Rattle.closed.proofs.Scans.{closed-from}
 use Rattle.closed.proofs.Profiles.{small-refused, small-timed, parts-walking}
@@ -114,36 +114,9 @@ returns-3 c =
 pub closed-in-spec : {M : Type 1} → statement M
 closed-in-spec =
     tie.close
-    (tie.spec
-    (λ c κs. search needs)
-    (λ c. search needs)
-    (λ c. search needs)
-    (λ c. search needs)
-    (λ c. search needs)
-    returns
-    sub-closed-ranges
-    part-closed-ranges-start
-    (λ c. search needs)
-    slice-reshare-prefix-closed-ranges
-    slice-aggregate-closed-ranges
-    slice-reshare-prefix-closed-ranges-2
-    slice-aggregate-closed-ranges-2
-    slice-relend-prefix-closed-ranges
-    slice-aggregate-closed-ranges-3
-    slice-relend-prefix-closed-ranges-2
-    slice-aggregate-closed-ranges-4
-    slice-relend-prefix-closed-ranges-3
-    slice-aggregate-closed-ranges-5
-    closed-ranges-requires
-    (λ c. search needs)
-    (λ c. search needs)
-    returns-2
-    (λ c. search needs)
-    (λ c. search needs)
-    (λ c. search needs)
-    (λ c. search needs)
-    (λ c. search needs)
-    (λ c. search needs)
-    (λ c. search needs)
-    (λ c. search needs)
-    returns-3)
+    (tie.spec (λ c κs. search needs) (λ c. search needs) (λ c. search needs) (λ c. search needs) (λ c. search needs) returns
+    sub-closed-ranges part-closed-ranges-start (λ c. search needs) slice-reshare-prefix-closed-ranges slice-aggregate-closed-ranges
+    slice-reshare-prefix-closed-ranges-2 slice-aggregate-closed-ranges-2 slice-relend-prefix-closed-ranges slice-aggregate-closed-ranges-3
+    slice-relend-prefix-closed-ranges-2 slice-aggregate-closed-ranges-4 slice-relend-prefix-closed-ranges-3 slice-aggregate-closed-ranges-5
+    closed-ranges-requires (λ c. search needs) (λ c. search needs) returns-2 (λ c. search needs) (λ c. search needs) (λ c. search needs)
+    (λ c. search needs) (λ c. search needs) (λ c. search needs) (λ c. search needs) (λ c. search needs) returns-3)

@@ -54,8 +54,7 @@ begins-among c ns r = let z = sized-by (c .before) ns r in rw (← z .first, ←
 
 slice-aggregate-walk : tie.Need-slice-aggregate-walk
 slice-aggregate-walk c =
-    let start = c .before .before .before .before .before .before .before .before .before in
-    sym (length-take-le _ _ (start .pre .0))
+    sym (length-take-le _ _ (c .before .before .before .before .before .before .before .before .before .pre .0))
 
 slice-aggregate-walk-2 : tie.Need-slice-aggregate-walk-2
 slice-aggregate-walk-2 c =
@@ -112,31 +111,8 @@ returns-4 c =
 pub closed-ranges-spec : {M : Type 1} → statement M
 closed-ranges-spec =
     tie.close
-    (tie.spec
-    (λ c κs. search needs)
-    slice-aggregate-product-of-sizes
-    slice-aggregate-product-of-sizes-2
-    (λ c κs. search needs)
-    mul-all
-    returns
-    returns-2
-    (λ c κs. search needs)
-    slice-aggregate-walk
-    slice-aggregate-walk-2
-    walk-requires
-    (λ c. search needs)
-    (λ c. search needs)
-    (λ c. search needs)
-    (λ c. search needs)
-    (λ c. search needs)
-    (λ c. search needs)
-    returns-3
-    fill-requires
-    fill-requires-2
-    (λ c. search needs)
-    (λ c. search needs)
-    (λ c. search needs)
-    (λ c. search needs)
-    (λ c. search needs)
-    (λ c. search needs)
+    (tie.spec (λ c κs. search needs) slice-aggregate-product-of-sizes slice-aggregate-product-of-sizes-2 (λ c κs. search needs) mul-all
+    returns returns-2 (λ c κs. search needs) slice-aggregate-walk slice-aggregate-walk-2 walk-requires (λ c. search needs)
+    (λ c. search needs) (λ c. search needs) (λ c. search needs) (λ c. search needs) (λ c. search needs) returns-3 fill-requires
+    fill-requires-2 (λ c. search needs) (λ c. search needs) (λ c. search needs) (λ c. search needs) (λ c. search needs) (λ c. search needs)
     returns-4)

@@ -32,9 +32,6 @@ returns c =
     let s = shaped (c .before .before) in
     (small-timed (c .before .before .before .before .before .before .before .before .before .before .before .args .image .now) (c .before .before .before .before .before .before .before .before .before .before .before .args .state .now) (c .before .before .before .before .before .before .before .before .before .before .before .args .row .now) _ (s .sound) (s .timed ∙ lt-ltb (c .before .before .before .shaped2 .given .0 .0 .names) (c .before .before .before .shaped2 .given .0 .0 .size) (c .if1 .taken)), omega arith)
 
-slice-reshare-prefix-combination-ranges : tie.Need-slice-reshare-prefix-combination-ranges
-slice-reshare-prefix-combination-ranges c = low-room c
-
 slice-aggregate-combination-ranges : tie.Need-slice-aggregate-combination-ranges
 slice-aggregate-combination-ranges c = sym (length-take-le _ _ (low-room (c .before)))
 
@@ -70,23 +67,7 @@ returns-3 c =
 pub combination-in-spec : {M : Type 1} → statement M
 combination-in-spec =
     tie.close
-    (tie.spec
-    (λ c κs. search needs)
-    (λ c. search needs)
-    (λ c. search needs)
-    (λ c. search needs)
-    (λ c. search needs)
-    returns
-    slice-reshare-prefix-combination-ranges
-    slice-aggregate-combination-ranges
-    slice-reshare-prefix-combination-ranges-2
-    slice-aggregate-combination-ranges-2
-    combination-ranges-requires
-    (λ c. search needs)
-    (λ c. search needs)
-    returns-2
-    (λ c. search needs)
-    (λ c. search needs)
-    (λ c. search needs)
-    (λ c. search needs)
-    returns-3)
+    (tie.spec (λ c κs. search needs) (λ c. search needs) (λ c. search needs) (λ c. search needs) (λ c. search needs) returns
+    (λ c. low-room c) slice-aggregate-combination-ranges slice-reshare-prefix-combination-ranges-2 slice-aggregate-combination-ranges-2
+    combination-ranges-requires (λ c. search needs) (λ c. search needs) returns-2 (λ c. search needs) (λ c. search needs)
+    (λ c. search needs) (λ c. search needs) returns-3)

@@ -39,8 +39,7 @@ returns c =
 sized-by : (c : tie.Else1) (ns : List Range) → RangesIn ns (c .before .before .before .before .before .args .low .now) (c .before .before .before .before .before .args .high .now) → Sized (productOfSizes ns) (productOfSizes (take (c .before .before .before .before .before .args .inputs) ns)) (c .before .before .before .before .product-of-sizes .result) (c .before .product-of-sizes2 .result)
 sized-by c ns r =
     let at-product = c .before .before .before .before in
-    let start = at-product .before in
-    let i = start .args .inputs in
+    let i = at-product .before .args .inputs in
     sized (productOfSizes ns) (productOfSizes (take i ns)) (at-product .product-of-sizes .result) (c .before .product-of-sizes2 .result) (at-product .product-of-sizes .ensures .0 ns r) (c .before .product-of-sizes2 .ensures .0 (take i ns) (ranges-taken i ns _ _ r)) (at-product .product-of-sizes .ensures .1 .0) (c .before .product-of-sizes2 .ensures .1 .0) (c .if1 .left)
 
 returns-2 : tie.Need-returns-2
@@ -65,8 +64,7 @@ returns-4 c =
 
 slice-aggregate-nth : tie.Need-slice-aggregate-nth
 slice-aggregate-nth c =
-    let start = c .before .before .before .before .before .before .before .before .before .before .before .before in
-    sym (length-take-le _ _ (start .pre .0))
+    sym (length-take-le _ _ (c .before .before .before .before .before .before .before .before .before .before .before .before .pre .0))
 
 slice-aggregate-nth-2 : tie.Need-slice-aggregate-nth-2
 slice-aggregate-nth-2 c =
@@ -101,23 +99,6 @@ returns-5 c =
 pub combination-ranges-spec : {M : Type 1} → statement M
 combination-ranges-spec =
     tie.close
-    (tie.spec
-    (λ c κs. search needs)
-    slice-aggregate-product-of-sizes
-    slice-aggregate-product-of-sizes-2
-    product-requires-2
-    mul-if1
-    returns
-    returns-2
-    returns-3
-    (λ c. search needs)
-    returns-4
-    (λ c. search needs)
-    (λ c κs. search needs)
-    slice-aggregate-nth
-    slice-aggregate-nth-2
-    (λ c. search needs)
-    nth-requires-2
-    (λ c. search needs)
-    (λ c. search needs)
-    returns-5)
+    (tie.spec (λ c κs. search needs) slice-aggregate-product-of-sizes slice-aggregate-product-of-sizes-2 product-requires-2 mul-if1 returns
+    returns-2 returns-3 (λ c. search needs) returns-4 (λ c. search needs) (λ c κs. search needs) slice-aggregate-nth slice-aggregate-nth-2
+    (λ c. search needs) nth-requires-2 (λ c. search needs) (λ c. search needs) returns-5)

@@ -36,25 +36,22 @@ at-hand c ns r = subst (Turning ns (c .before .before .args .values .now) (c .be
 below : (c : tie.Then1 Inv-loop μ-loop) → ltZ (getD (c .before .before .before .before .loop .values) (c .before .before .before .before .loop .k - 1) (pos 0)) (getD (c .before .before .before .before .before .args .high .now) (c .before .before .before .before .loop .k - 1) (pos 0)) ≡ true
 below c =
     let at-loop = c .before .before .before .before in
-    let start = at-loop .before in
     let fv : SFits w32 (getD (at-loop .loop .values) (at-loop .loop .k - 1) (pos 0)) = record { sfits = c .before .before .if12 .given } in
-    let fh : SFits w32 (getD (start .args .high .now) (at-loop .loop .k - 1) (pos 0)) = record { sfits = c .before .if13 .given } in
+    let fh : SFits w32 (getD (at-loop .before .args .high .now) (at-loop .loop .k - 1) (pos 0)) = record { sfits = c .before .if13 .given } in
     rw (same32 fv, same32 fh) at (c .if1 .taken)
 
 not-below : (c : tie.Else1 Inv-loop μ-loop) → ltZ (getD (c .before .before .before .before .loop .values) (c .before .before .before .before .loop .k - 1) (pos 0)) (getD (c .before .before .before .before .before .args .high .now) (c .before .before .before .before .loop .k - 1) (pos 0)) ≡ false
 not-below c =
     let at-loop = c .before .before .before .before in
-    let start = at-loop .before in
     let fv : SFits w32 (getD (at-loop .loop .values) (at-loop .loop .k - 1) (pos 0)) = record { sfits = c .before .before .if12 .given } in
-    let fh : SFits w32 (getD (start .args .high .now) (at-loop .loop .k - 1) (pos 0)) = record { sfits = c .before .if13 .given } in
+    let fh : SFits w32 (getD (at-loop .before .args .high .now) (at-loop .loop .k - 1) (pos 0)) = record { sfits = c .before .if13 .given } in
     rw (same32 fv, same32 fh) at (c .if1 .left)
 
 more-fits : (c : tie.Then1 Inv-loop μ-loop) → SFits w32 (getD (c .before .before .before .before .loop .values) (c .before .before .before .before .loop .k - 1) (pos 0) +ℤ pos 1)
 more-fits c =
     let at-loop = c .before .before .before .before in
-    let start = at-loop .before in
     let fv : SFits w32 (getD (at-loop .loop .values) (at-loop .loop .k - 1) (pos 0)) = record { sfits = c .before .before .if12 .given } in
-    let fh : SFits w32 (getD (start .args .high .now) (at-loop .loop .k - 1) (pos 0)) = record { sfits = c .before .if13 .given } in
+    let fh : SFits w32 (getD (at-loop .before .args .high .now) (at-loop .loop .k - 1) (pos 0)) = record { sfits = c .before .if13 .given } in
     next-fits fv fh (below c)
 
 value-is : (c : tie.Then1 Inv-loop μ-loop) → toZ w32 (ofZ w32 (getD (c .before .before .before .before .loop .values) (c .before .before .before .before .loop .k - 1) (pos 0))) ≡ getD (c .before .before .before .before .loop .values) (c .before .before .before .before .loop .k - 1) (pos 0)
@@ -88,26 +85,6 @@ returns-2 c ns r = turning-ends ns _ _ (subst (Turning ns (c .before .before .ar
 pub next-spec : {M : Type 1} → statement M
 next-spec =
     tie.close
-    (tie.spec
-    Inv-loop
-    μ-loop
-    loop-holds
-    (λ c. search needs)
-    (λ c. search needs)
-    (λ c. search needs)
-    (λ c. search needs)
-    (λ c. search needs)
-    (λ c. search needs)
-    (λ c. search needs)
-    add-values
-    (λ c. search needs)
-    (λ c. search needs)
-    returns
-    (λ c. search needs)
-    (λ c. search needs)
-    (λ c. search needs)
-    (λ c. search needs)
-    (λ c. search needs)
-    loop-again
-    (λ c. search needs)
-    returns-2)
+    (tie.spec Inv-loop μ-loop loop-holds (λ c. search needs) (λ c. search needs) (λ c. search needs) (λ c. search needs) (λ c. search needs)
+    (λ c. search needs) (λ c. search needs) add-values (λ c. search needs) (λ c. search needs) returns (λ c. search needs)
+    (λ c. search needs) (λ c. search needs) (λ c. search needs) (λ c. search needs) loop-again (λ c. search needs) returns-2)

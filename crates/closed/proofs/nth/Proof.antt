@@ -36,8 +36,7 @@ loop-holds c = (
 
 next-requires : tie.Need-next-requires Inv-loop μ-loop
 next-requires c κs =
-    let start = c .before .before .before .before .before .before in
-    (start .pre .0, c .before .before .loop .inv .1)
+    (c .before .before .before .before .before .before .pre .0, c .before .before .loop .inv .1)
 
 add-i : tie.Need-add-i Inv-loop μ-loop
 add-i c = omega (arith, c .before .before .before .loop-test .taken)
@@ -56,8 +55,7 @@ loop-again c =
 
 same-length : tie.Need-same-length Inv-loop μ-loop
 same-length c =
-    let start = c .before .before .before .before .before in
-    c .before .loop .inv .1 ∙ sym (start .pre .1)
+    c .before .loop .inv .1 ∙ sym (c .before .before .before .before .before .pre .1)
 
 returns : tie.Need-returns Inv-loop μ-loop
 returns c =
@@ -67,16 +65,4 @@ returns c =
     subst (λ (n : ℕ). IsNth ns n (c .before .loop .values)) e (c .before .loop .inv .2 ns r (omega (arith, e, h)))
 
 pub nth-spec : {M : Type 1} → statement M
-nth-spec =
-    tie.close
-    (tie.spec
-    Inv-loop
-    μ-loop
-    fill-requires
-    loop-holds
-    next-requires
-    add-i
-    loop-less
-    loop-again
-    same-length
-    returns)
+nth-spec = tie.close (tie.spec Inv-loop μ-loop fill-requires loop-holds next-requires add-i loop-less loop-again same-length returns)

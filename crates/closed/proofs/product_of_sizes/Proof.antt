@@ -58,19 +58,5 @@ returns-2 c = (λ ns r. let e = product-ends ns _ _ r (c .before .loop .p) (c .b
 pub product-of-sizes-spec : {M : Type 1} → statement M
 product-of-sizes-spec =
     tie.close
-    (tie.spec
-    Inv-loop
-    μ-loop
-    loop-holds
-    (λ c. search needs)
-    (λ c. search needs)
-    (λ c. search needs)
-    (λ c. search needs)
-    (λ c κs. search needs)
-    mul-p
-    (λ c. search needs)
-    returns
-    (λ c. search needs)
-    (λ c. search needs)
-    loop-again
-    returns-2)
+    (tie.spec Inv-loop μ-loop loop-holds (λ c. search needs) (λ c. search needs) (λ c. search needs) (λ c. search needs)
+    (λ c κs. search needs) mul-p (λ c. search needs) returns (λ c. search needs) (λ c. search needs) loop-again returns-2)

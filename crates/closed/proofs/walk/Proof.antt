@@ -2,14 +2,14 @@
 use mathlib.Core.Path.{refl, sym, ap, _∙_}
 use mathlib.Core.Logic.{⊎-elim}
 use Prim.Native.Nat.{_-_, _%_, _<_}
-use native.Mathlib.Nat.{mod-lt}
+use native.Mathlib.Nat.{mod-lt, div-mul-le-self}
 use native.Mathlib.Omega.{arith}
 use borrow.Author.Needs.{needs}
 use lib.ListN.{length}
 use Rattle.closed.specs.Closed.{productOfSizes}
 use Rattle.closed.specs.Inner.Parts.{working, Walking}
 use Rattle.closed.proofs.Numbering.{quotient-below}
-use Rattle.closed.proofs.Walks.{AtState, AtRow, walking-kept, outer-begins, outer-ends, inner-begins, inner-stops, inner-goes, inner-ends, begins-before, begins-behind, few-states}
+use Rattle.closed.proofs.Walks.{AtState, AtRow, walking-kept, outer-begins, outer-ends, inner-begins, inner-stops, inner-goes, inner-ends, begins-behind, few-states}
 use Rattle.closed.proofs.walk.Statement.{statement}
 use Rattle.closed.proofs.walk.Tie as tie
 
@@ -27,14 +27,8 @@ Inv-states code low high row-low row-high rows first end state₀ row₀ work₀
 abbrev μ-states : tie.MeasureT-states
 μ-states code low high row-low row-high rows first end state₀ row₀ work₀ vals₀ i₀ done₀ state row work vals i done = end - done
 
-div-i : tie.Need-div-i Inv-loop μ-loop Inv-states μ-states
-div-i c = search needs
-
 nth-requires : tie.Need-nth-requires Inv-loop μ-loop Inv-states μ-states
 nth-requires c κs = (c .before .before .pre .0 .highs, c .before .before .pre .0 .states)
-
-rem-nth : tie.Need-rem-nth Inv-loop μ-loop Inv-states μ-states
-rem-nth c = search needs
 
 nth-requires-2 : tie.Need-nth-requires-2 Inv-loop μ-loop Inv-states μ-states
 nth-requires-2 c κs =
@@ -48,7 +42,7 @@ states-holds c =
     record {
       memory = walking-kept (at-nth .nth .kept .1 .1 .1 .0) (c .before .nth2 .kept .1 .1 .1 .0) refl refl (start .pre .0);
       among = start .pre .1 .1;
-      begun = λ h. begins-before (start .args .first) (start .args .rows);
+      begun = λ h. div-mul-le-self (start .args .first) (start .args .rows);
       open-yet = λ h. begins-behind (start .args .first) (start .args .rows) (start .pre .1 .0);
       whole = λ ns is r q e f.
           outer-begins (working ns (start .args .code .now)) ns is (start .args .rows) (start .args .first) (start .args .end) e (at-nth .nth .last .1 .1 .1 .0) (c .before .nth2 .last .1 .1 .1 .0)
@@ -81,8 +75,7 @@ is-refused-requires c κs =
 
 next-requires : tie.Need-next-requires Inv-loop μ-loop Inv-states μ-states
 next-requires c κs =
-    let at-loop = c .before .before .before .before .before .before .before .before .before .before in
-    let m = at-loop .loop .inv .memory in (m .row-highs, m .rows)
+    let m = c .before .before .before .before .before .before .before .before .before .before .loop .inv .memory in (m .row-highs, m .rows)
 
 add-done : tie.Need-add-done Inv-loop μ-loop Inv-states μ-states
 add-done c =
@@ -157,23 +150,19 @@ left c =
 
 same-length : tie.Need-same-length Inv-loop μ-loop Inv-states μ-states
 same-length c =
-    let start = c .before .before .before .before .before .before .before .before .before .before in
-    left (c .before) .states ∙ sym (start .pre .0 .states)
+    left (c .before) .states ∙ sym (c .before .before .before .before .before .before .before .before .before .before .pre .0 .states)
 
 same-length-2 : tie.Need-same-length-2 Inv-loop μ-loop Inv-states μ-states
 same-length-2 c =
-    let start = c .before .before .before .before .before .before .before .before .before .before in
-    left (c .before) .rows ∙ sym (start .pre .0 .rows)
+    left (c .before) .rows ∙ sym (c .before .before .before .before .before .before .before .before .before .before .pre .0 .rows)
 
 same-length-3 : tie.Need-same-length-3 Inv-loop μ-loop Inv-states μ-states
 same-length-3 c =
-    let start = c .before .before .before .before .before .before .before .before .before .before in
-    left (c .before) .works ∙ sym (start .pre .0 .works)
+    left (c .before) .works ∙ sym (c .before .before .before .before .before .before .before .before .before .before .pre .0 .works)
 
 same-length-4 : tie.Need-same-length-4 Inv-loop μ-loop Inv-states μ-states
 same-length-4 c =
-    let start = c .before .before .before .before .before .before .before .before .before .before in
-    left (c .before) .stack ∙ sym (start .pre .0 .stack)
+    left (c .before) .stack ∙ sym (c .before .before .before .before .before .before .before .before .before .before .pre .0 .stack)
 
 -- left by the label: the loop's own end has none left
 returns : tie.Need-returns Inv-loop μ-loop Inv-states μ-states
@@ -192,23 +181,19 @@ returns c =
 
 same-length-5 : tie.Need-same-length-5 Inv-loop μ-loop Inv-states μ-states
 same-length-5 c =
-    let start = c .before .before .before .before .before .before .before .before .before .before in
-    left (c .before) .states ∙ sym (start .pre .0 .states)
+    left (c .before) .states ∙ sym (c .before .before .before .before .before .before .before .before .before .before .pre .0 .states)
 
 same-length-6 : tie.Need-same-length-6 Inv-loop μ-loop Inv-states μ-states
 same-length-6 c =
-    let start = c .before .before .before .before .before .before .before .before .before .before in
-    left (c .before) .rows ∙ sym (start .pre .0 .rows)
+    left (c .before) .rows ∙ sym (c .before .before .before .before .before .before .before .before .before .before .pre .0 .rows)
 
 same-length-7 : tie.Need-same-length-7 Inv-loop μ-loop Inv-states μ-states
 same-length-7 c =
-    let start = c .before .before .before .before .before .before .before .before .before .before in
-    left (c .before) .works ∙ sym (start .pre .0 .works)
+    left (c .before) .works ∙ sym (c .before .before .before .before .before .before .before .before .before .before .pre .0 .works)
 
 same-length-8 : tie.Need-same-length-8 Inv-loop μ-loop Inv-states μ-states
 same-length-8 c =
-    let start = c .before .before .before .before .before .before .before .before .before .before in
-    left (c .before) .stack ∙ sym (start .pre .0 .stack)
+    left (c .before) .stack ∙ sym (c .before .before .before .before .before .before .before .before .before .before .pre .0 .stack)
 
 returns-2 : tie.Need-returns-2 Inv-loop μ-loop Inv-states μ-states
 returns-2 c =
@@ -221,4 +206,4 @@ returns-2 c =
 pub walk-spec : {M : Type 1} → statement M
 walk-spec =
     tie.close
-    (tie.spec Inv-loop μ-loop Inv-states μ-states div-i nth-requires rem-nth nth-requires-2 states-holds mul-behind behind-requires loop-holds is-refused-requires next-requires add-done loop-less loop-again next-requires-2 add-i states-less states-again same-length same-length-2 same-length-3 same-length-4 returns same-length-5 same-length-6 same-length-7 same-length-8 returns-2)
+    (tie.spec Inv-loop μ-loop Inv-states μ-states (λ c. search needs) nth-requires (λ c. search needs) nth-requires-2 states-holds mul-behind behind-requires loop-holds is-refused-requires next-requires add-done loop-less loop-again next-requires-2 add-i states-less states-again same-length same-length-2 same-length-3 same-length-4 returns same-length-5 same-length-6 same-length-7 same-length-8 returns-2)

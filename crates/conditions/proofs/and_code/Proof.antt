@@ -14,8 +14,4 @@ unfolding andOf is kindNumber
 returns-2 c = λ k e. rw (← e, ne-eqb _ _ (c .if1 .left))
 
 pub and-code-spec : {M : Type 1} → statement M
-and-code-spec =
-    tie.close
-    (tie.spec
-    returns
-    returns-2)
+and-code-spec = tie.close (tie.spec returns returns-2)

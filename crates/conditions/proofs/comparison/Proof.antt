@@ -30,8 +30,7 @@ returns-3 c =
     let at-if1 = at-expression2 .before .before in
     let at-comparison-code = at-if1 .before in
     let at-first = at-comparison-code .before .before in
-    let at-expression = at-first .before .before .before .before in
-    passed (at-expression2 .expression2 .ensures) (c .enum-told2 .given .1) (second-refuses _ _ _ (accepted-by (at-expression .expression .ensures) (at-first .first .given .1)) (at-comparison-code .comparison-code .ensures) (at-if1 .if1 .left))
+    passed (at-expression2 .expression2 .ensures) (c .enum-told2 .given .1) (second-refuses _ _ _ (accepted-by (at-first .before .before .before .before .expression .ensures) (at-first .first .given .1)) (at-comparison-code .comparison-code .ensures) (at-if1 .if1 .left))
 
 put-byte-requires : tie.Need-put-byte-requires
 put-byte-requires c κs =
@@ -54,9 +53,8 @@ returns-4 c =
     let at-if1 = at-expression2 .before .before in
     let at-comparison-code = at-if1 .before in
     let at-first = at-comparison-code .before .before in
-    let at-expression = at-first .before .before .before .before in
     let b = accepted-by (at-expression2 .expression2 .ensures) (at-second .second .given .1) in
-    accepts-up-to refl (comparison-accepts _ _ _ (accepted-by (at-expression .expression .ensures) (at-first .first .given .1)) (at-comparison-code .comparison-code .ensures) (at-if1 .if1 .left) b (c .before .before .put-byte .ensures .0) (c .before .before .put-byte .ensures .1))
+    accepts-up-to refl (comparison-accepts _ _ _ (accepted-by (at-first .before .before .before .before .expression .ensures) (at-first .first .given .1)) (at-comparison-code .comparison-code .ensures) (at-if1 .if1 .left) b (c .before .before .put-byte .ensures .0) (c .before .before .put-byte .ensures .1))
 
 pub comparison-spec : {M : Type 1} → statement M
 comparison-spec =

@@ -11,10 +11,4 @@ unfolding kindNumber
 returns c = same-part (listed-is _ _) (answers (c .closed .ensures) (closed-parses closeSquare _ (c .before .before .before .whole-condition .ensures)))
 
 pub listed-spec : {M : Type 1} → statement M
-listed-spec =
-    tie.close
-    (tie.spec
-    (λ c κs. search needs)
-    (λ c κs. search needs)
-    (λ c. search needs)
-    returns)
+listed-spec = tie.close (tie.spec (λ c κs. search needs) (λ c κs. search needs) (λ c. search needs) returns)

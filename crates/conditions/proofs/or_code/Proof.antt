@@ -14,8 +14,4 @@ unfolding orOf is kindNumber
 returns-2 c = λ k e. rw (← e, ne-eqb _ _ (c .if1 .left))
 
 pub or-code-spec : {M : Type 1} → statement M
-or-code-spec =
-    tie.close
-    (tie.spec
-    returns
-    returns-2)
+or-code-spec = tie.close (tie.spec returns returns-2)

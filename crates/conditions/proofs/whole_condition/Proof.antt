@@ -9,9 +9,4 @@ unfolding wholeCondition
 returns c = c .before .before .condition .ensures
 
 pub whole-condition-spec : {M : Type 1} → statement M
-whole-condition-spec =
-    tie.close
-    (tie.spec
-    (λ c κs. search needs)
-    (λ c. search needs)
-    returns)
+whole-condition-spec = tie.close (tie.spec (λ c κs. search needs) (λ c. search needs) returns)

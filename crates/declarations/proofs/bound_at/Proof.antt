@@ -18,10 +18,9 @@ returns-2 : tie.Need-returns-2
 unfolding kindNumber
 returns-2 c =
     let at-read = c .before .before .before .before .before .before in
-    let at-token-at = at-read .before .before in
     let f = is-fault _ _ _ (c .before .before .token-at2 .ensures) _ _ (c .enum-told2 .given .1) in
     no-token (c .enum-told2 .given .1) (f .1)
-    ∙ sym (bound-minus-fault _ _ _ _ _ _ (is-token _ _ _ (at-token-at .token-at .ensures) _ (at-read .read .given .1) .0) (kind-is _ minus (c .before .before .before .if1 .taken)) _ (f .0))
+    ∙ sym (bound-minus-fault _ _ _ _ _ _ (is-token _ _ _ (at-read .before .before .token-at .ensures) _ (at-read .read .given .1) .0) (kind-is _ minus (c .before .before .before .if1 .taken)) _ (f .0))
 
 digits-requires : tie.Need-digits-requires
 digits-requires c κs = is-token _ _ _ (c .before .before .before .token-at2 .ensures) _ (c .before .next .given .1) .1 .known-kind

@@ -47,8 +47,7 @@ returns-3 c =
     let at-if1 = at-declaration .before .before .before .before in
     let at-read = at-if1 .before .before .before in
     let at-token-at = at-read .before .before in
-    let at-loop = at-token-at .before in
-    (turns-out _ _ _ _ _ _ _ _ _ _ _ _ _ _ (at-loop .loop .inv) _ _ _ (is-token _ _ _ (at-token-at .token-at .ensures) _ (at-read .read .given .1) .0) (same-kinds _ _ (at-if1 .if1 .left)) _ _ _ (at-declaration .declaration .ensures .0) (at-declaration .declaration .ensures .1) (c .enum-told2 .given .1), few-refused _ (c .enum-told2 .given .1))
+    (turns-out _ _ _ _ _ _ _ _ _ _ _ _ _ _ (at-token-at .before .loop .inv) _ _ _ (is-token _ _ _ (at-token-at .token-at .ensures) _ (at-read .read .given .1) .0) (same-kinds _ _ (at-if1 .if1 .left)) _ _ _ (at-declaration .declaration .ensures .0) (at-declaration .declaration .ensures .1) (c .enum-told2 .given .1), few-refused _ (c .enum-told2 .given .1))
 
 add-known : tie.Need-add-known Inv-loop μ-loop
 add-known c = record { fits = omega (arith, c .before .before .before .before .before .before .before .before .before .before .before .before .before .before .before .before .before .before .before .loop .inv .few) }

@@ -25,8 +25,7 @@ unfolding kindNumber
 returns-3 c =
     let at-if1 = c .before .before .before .before .before .before in
     let at-read = at-if1 .before .before .before in
-    let at-token-at = at-read .before .before in
-    refuses-known _ _ _ _ _ _ _ _ _ _ (is-token _ _ _ (at-token-at .token-at .ensures) _ (at-read .read .given .1) .0) (kind-is _ name (at-if1 .if1 .left)) _ (sym (c .before .before .find .ensures ∙ ap (idOf _) (c .before .before .before .name .ensures)) ∙ ap foundId (c .enum-told2 .given .1))
+    refuses-known _ _ _ _ _ _ _ _ _ _ (is-token _ _ _ (at-read .before .before .token-at .ensures) _ (at-read .read .given .1) .0) (kind-is _ name (at-if1 .if1 .left)) _ (sym (c .before .before .find .ensures ∙ ap (idOf _) (c .before .before .before .name .ensures)) ∙ ap foundId (c .enum-told2 .given .1))
 
 returns-4 : tie.Need-returns-4
 unfolding kindNumber
@@ -34,8 +33,7 @@ returns-4 c =
     let at-find = c .before .before .before .before in
     let at-if1 = at-find .before .before .before .before in
     let at-read = at-if1 .before .before .before in
-    let at-token-at = at-read .before .before in
-    refuses-long _ _ _ _ _ _ _ _ _ _ (is-token _ _ _ (at-token-at .token-at .ensures) _ (at-read .read .given .1) .0) (kind-is _ name (at-if1 .if1 .left)) (sym (at-find .find .ensures ∙ ap (idOf _) (at-find .before .name .ensures)) ∙ ap foundId (c .before .before .enum-told3 .given .1)) (sym (c .before .is-over-long .ensures) ∙ c .if2 .taken)
+    refuses-long _ _ _ _ _ _ _ _ _ _ (is-token _ _ _ (at-read .before .before .token-at .ensures) _ (at-read .read .given .1) .0) (kind-is _ name (at-if1 .if1 .left)) (sym (at-find .find .ensures ∙ ap (idOf _) (at-find .before .name .ensures)) ∙ ap foundId (c .before .before .enum-told3 .given .1)) (sym (c .before .is-over-long .ensures) ∙ c .if2 .taken)
 
 add-requires : tie.Need-add-requires
 add-requires c κs =
@@ -54,8 +52,7 @@ returns-5 c =
     let at-if1 = at-find .before .before .before .before in
     let at-read = at-if1 .before .before .before in
     let at-token-at = at-read .before .before in
-    let start = at-token-at .before .before .before .before in
-    takes-name _ _ _ _ _ _ _ _ _ _ (is-token _ _ _ (at-token-at .token-at .ensures) _ (at-read .read .given .1) .0) (kind-is _ name (at-if1 .if1 .left)) (sym (at-find .find .ensures ∙ ap (idOf _) (at-find .before .name .ensures)) ∙ ap foundId (at-enum-told3 .enum-told3 .given .1)) (sym (at-is-over-long .is-over-long .ensures) ∙ at-if2 .if2 .left) (at-if3 .if3 .taken) (start .pre) (at-add .add .ensures) (c .reached .ensures)
+    takes-name _ _ _ _ _ _ _ _ _ _ (is-token _ _ _ (at-token-at .token-at .ensures) _ (at-read .read .given .1) .0) (kind-is _ name (at-if1 .if1 .left)) (sym (at-find .find .ensures ∙ ap (idOf _) (at-find .before .name .ensures)) ∙ ap foundId (at-enum-told3 .enum-told3 .given .1)) (sym (at-is-over-long .is-over-long .ensures) ∙ at-if2 .if2 .left) (at-if3 .if3 .taken) (at-token-at .before .before .before .before .pre) (at-add .add .ensures) (c .reached .ensures)
 
 returns-6 : tie.Need-returns-6
 unfolding kindNumber
@@ -63,8 +60,7 @@ returns-6 c =
     let at-find = c .before .before .before .before .before in
     let at-if1 = at-find .before .before .before .before in
     let at-read = at-if1 .before .before .before in
-    let at-token-at = at-read .before .before in
-    refuses-last _ _ _ _ _ _ _ _ _ _ (is-token _ _ _ (at-token-at .token-at .ensures) _ (at-read .read .given .1) .0) (kind-is _ name (at-if1 .if1 .left)) (sym (at-find .find .ensures ∙ ap (idOf _) (at-find .before .name .ensures)) ∙ ap foundId (c .before .before .before .enum-told3 .given .1)) (sym (c .before .before .is-over-long .ensures) ∙ c .before .if2 .left) (c .if3 .left)
+    refuses-last _ _ _ _ _ _ _ _ _ _ (is-token _ _ _ (at-read .before .before .token-at .ensures) _ (at-read .read .given .1) .0) (kind-is _ name (at-if1 .if1 .left)) (sym (at-find .find .ensures ∙ ap (idOf _) (at-find .before .name .ensures)) ∙ ap foundId (c .before .before .before .enum-told3 .given .1)) (sym (c .before .before .is-over-long .ensures) ∙ c .before .if2 .left) (c .if3 .left)
 
 pub new-name-spec : {M : Type 1} → statement M
 new-name-spec =

@@ -20,6 +20,4 @@ returns c =
     (number-kept _ _ _ _ (start-2 .args .low) (start-2 .fits .low) (at-put-signed .put-signed .ensures)) (number-kept _ _ _ _ (start-2 .args .high) (start-2 .fits .high) (at-put-signed2 .put-signed2 .ensures)) (number-kept _ _ _ _ (start-2 .args .start) (start-2 .fits .start) (c .before .before .put-signed3 .ensures))
 
 pub put-range-spec : {M : Type 1} → statement M
-put-range-spec =
-    tie.close
-    (tie.spec (λ c κs. search needs) put-signed-requires-2 put-signed-requires-3 (λ c. search needs) returns)
+put-range-spec = tie.close (tie.spec (λ c κs. search needs) put-signed-requires-2 put-signed-requires-3 (λ c. search needs) returns)

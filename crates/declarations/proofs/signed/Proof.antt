@@ -17,6 +17,4 @@ returns-2 : tie.Need-returns-2
 returns-2 c = rw (c .within2 .ensures, same32 (c .before .before .fits .low), same32 (c .before .before .fits .high), held _ (c .before .before .pre), c .before .if1 .left)
 
 pub signed-spec : {M : Type 1} → statement M
-signed-spec =
-    tie.close
-    (tie.spec (λ c. search needs) sub-within (λ c κs. search needs) returns (λ c κs. search needs) returns-2)
+signed-spec = tie.close (tie.spec (λ c. search needs) sub-within (λ c κs. search needs) returns (λ c κs. search needs) returns-2)

@@ -11,9 +11,6 @@ use Rattle.declarations.proofs.Numbers.{between}
 use Rattle.declarations.proofs.within.Statement.{statement}
 use Rattle.declarations.proofs.within.Tie as tie
 
-cast-if1 : tie.Need-cast-if1
-cast-if1 c = widens (c .fits .low)
-
 cast-if2 : tie.Need-cast-if2
 cast-if2 c = widens (c .before .fits .high)
 
@@ -47,4 +44,4 @@ returns-3 c =
     rw q
 
 pub within-spec : {M : Type 1} → statement M
-within-spec = tie.close (tie.spec cast-if1 cast-if2 cast-t8 returns returns-2 returns-3)
+within-spec = tie.close (tie.spec (λ c. widens (c .fits .low)) cast-if2 cast-t8 returns returns-2 returns-3)

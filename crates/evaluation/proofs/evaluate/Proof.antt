@@ -49,9 +49,8 @@ same-length c = let d = c .before .before .before .before .before .before .befor
 
 returns : tie.Need-returns Inv-loop μ-loop
 returns c =
-    let i = c .before .before .before .before .before .before .before .before .before .before .loop .inv in
     let f = c .before .before .before .before .before .before .op .given in
-    λ x d l. (_, refused (taken (i .goes x d l) (c .before .before .before .before .before .before .before .before .before .loop-test .taken) (instructionOf (f .0 .0) (f .0 .1 .0)) (f .0 .1 .1 .0) (sym (ap fetchedRead (f .1)) ∙ c .before .before .before .before .before .before .before .before .fetch .ensures .0)) l (c .before .before .before .work .result) (c .before .before .before .work .last .1 .1 .0) (c .before .before .before .work .ensures .0) _ (c .enum-told .given .1))
+    λ x d l. (_, refused (taken (c .before .before .before .before .before .before .before .before .before .before .loop .inv .goes x d l) (c .before .before .before .before .before .before .before .before .before .loop-test .taken) (instructionOf (f .0 .0) (f .0 .1 .0)) (f .0 .1 .1 .0) (sym (ap fetchedRead (f .1)) ∙ c .before .before .before .before .before .before .before .before .fetch .ensures .0)) l (c .before .before .before .work .result) (c .before .before .before .work .last .1 .1 .0) (c .before .before .before .work .ensures .0) _ (c .enum-told .given .1))
 
 same-length-2 : tie.Need-same-length-2 Inv-loop μ-loop
 same-length-2 c = let d = c .before .before .before .before .loop .inv .deep in search needs
@@ -73,9 +72,8 @@ same-length-4 c = let d = c .before .before .before .loop .inv .deep in search n
 
 returns-4 : tie.Need-returns-4 Inv-loop μ-loop
 returns-4 c =
-    let i = c .before .before .before .loop .inv in
     λ x d l.
-    let e = ended (i .goes x d l) (c .before .before .loop-test .left) in
+    let e = ended (c .before .before .before .loop .inv .goes x d l) (c .before .before .loop-test .left) in
     subst (Tells (c .answer .result)) (sym (e .is)) (c .answer .ensures (e .truth) (e .top))
 
 pub evaluate-spec : {M : Type 1} → statement M

@@ -11,6 +11,4 @@ returns-2 : tie.Need-returns-2
 returns-2 c = ahead-done _ _ _ (c .before .before .before .token-at .ensures .0) (c .before .read .given .1)
 
 pub ahead-spec : {M : Type 1} → statement M
-ahead-spec =
-    tie.close
-    (tie.spec (λ c κs. search needs) (λ c. search needs) (λ c. search needs) returns returns-2)
+ahead-spec = tie.close (tie.spec (λ c κs. search needs) (λ c. search needs) (λ c. search needs) returns returns-2)

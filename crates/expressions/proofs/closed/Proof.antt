@@ -11,12 +11,4 @@ returns-3 : tie.Need-returns-3
 returns-3 c = unclosed-at _ _ (c .before .before .before .part .given .1) (c .if1 .left)
 
 pub closed-spec : {M : Type 1} → statement M
-closed-spec =
-    tie.close
-    (tie.spec
-    (λ c. search needs)
-    (λ c. search needs)
-    (λ c. search needs)
-    (λ c κs. search needs)
-    returns-2
-    returns-3)
+closed-spec = tie.close (tie.spec (λ c. search needs) (λ c. search needs) (λ c. search needs) (λ c κs. search needs) returns-2 returns-3)

@@ -17,8 +17,7 @@ returns c = refuses (refused-now (current-long _ _ _ (sym (c .before .is-over-lo
 returns-2 : tie.Need-returns-2
 returns-2 c =
     let at-if1 = c .before .before .before .before in
-    let at-is-over-long = at-if1 .before in
-    refuses (refused-now (current-unknown _ _ _ (sym (at-is-over-long .is-over-long .ensures) ∙ at-if1 .if1 .left) (sym (c .before .before .find .ensures ∙ ap (idOf _) (c .before .before .before .name .ensures)) ∙ ap foundId (c .enum-told .given .1))))
+    refuses (refused-now (current-unknown _ _ _ (sym (at-if1 .before .is-over-long .ensures) ∙ at-if1 .if1 .left) (sym (c .before .before .find .ensures ∙ ap (idOf _) (c .before .before .before .name .ensures)) ∙ ap foundId (c .enum-told .given .1))))
 
 is-known-requires : tie.Need-is-known-requires
 is-known-requires c κs =
@@ -40,10 +39,8 @@ returns-3 c =
     let at-found = at-is-known .before .before in
     let at-find = at-found .before .before in
     let at-if1 = at-find .before .before in
-    let at-is-over-long = at-if1 .before in
-    let start = at-is-over-long .before .before .before .before .before in
     let e = sym (at-find .find .ensures ∙ ap (idOf _) (at-find .before .name .ensures)) ∙ ap foundId (at-found .found .given .1) in
-    same-part (current-known _ _ _ (sym (at-is-over-long .is-over-long .ensures) ∙ at-if1 .if1 .left) _ e (sym (at-is-known .is-known .ensures) ∙ at-if2 .if2 .taken))
+    same-part (current-known _ _ _ (sym (at-if1 .before .is-over-long .ensures) ∙ at-if1 .if1 .left) _ e (sym (at-is-known .is-known .ensures) ∙ at-if2 .if2 .taken))
     (recoded (current _) (c .before .before .instruction .ensures) (current-code _))
 
 returns-4 : tie.Need-returns-4
@@ -51,24 +48,11 @@ returns-4 c =
     let at-found = c .before .before .before in
     let at-find = at-found .before .before in
     let at-if1 = at-find .before .before in
-    let at-is-over-long = at-if1 .before in
-    let start = at-is-over-long .before .before .before .before .before in
     let e = sym (at-find .find .ensures ∙ ap (idOf _) (at-find .before .name .ensures)) ∙ ap foundId (at-found .found .given .1) in
-    refuses (refused-now (current-early _ _ _ (sym (at-is-over-long .is-over-long .ensures) ∙ at-if1 .if1 .left) _ e (sym (c .before .is-known .ensures) ∙ c .if2 .left)))
+    refuses (refused-now (current-early _ _ _ (sym (at-if1 .before .is-over-long .ensures) ∙ at-if1 .if1 .left) _ e (sym (c .before .is-known .ensures) ∙ c .if2 .left)))
 
 pub current-spec : {M : Type 1} → statement M
 current-spec =
     tie.close
-    (tie.spec
-    (λ c κs. search needs)
-    returns
-    (λ c κs. search needs)
-    (λ c κs. search needs)
-    (λ c. search needs)
-    (λ c. search needs)
-    returns-2
-    is-known-requires
-    instruction-requires
-    (λ c. search needs)
-    returns-3
-    returns-4)
+    (tie.spec (λ c κs. search needs) returns (λ c κs. search needs) (λ c κs. search needs) (λ c. search needs) (λ c. search needs) returns-2
+    is-known-requires instruction-requires (λ c. search needs) returns-3 returns-4)

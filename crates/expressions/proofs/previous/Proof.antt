@@ -17,8 +17,7 @@ returns c = refuses (refused-now (previous-long _ _ _ (sym (c .before .is-over-l
 returns-2 : tie.Need-returns-2
 returns-2 c =
     let at-if1 = c .before .before .before .before in
-    let at-is-over-long = at-if1 .before in
-    refuses (refused-now (previous-unknown _ _ _ (sym (at-is-over-long .is-over-long .ensures) ∙ at-if1 .if1 .left) (sym (c .before .before .find .ensures ∙ ap (idOf _) (c .before .before .before .name .ensures)) ∙ ap foundId (c .enum-told .given .1))))
+    refuses (refused-now (previous-unknown _ _ _ (sym (at-if1 .before .is-over-long .ensures) ∙ at-if1 .if1 .left) (sym (c .before .before .find .ensures ∙ ap (idOf _) (c .before .before .before .name .ensures)) ∙ ap foundId (c .enum-told .given .1))))
 
 instruction-requires : tie.Need-instruction-requires
 instruction-requires c κs =
@@ -31,22 +30,11 @@ returns-3 c =
     let at-found = c .before .before .before .before .before in
     let at-find = at-found .before .before in
     let at-if1 = at-find .before .before in
-    let at-is-over-long = at-if1 .before in
-    same-part (previous-known _ _ _ (sym (at-is-over-long .is-over-long .ensures) ∙ at-if1 .if1 .left) _ (sym (at-find .find .ensures ∙ ap (idOf _) (at-find .before .name .ensures)) ∙ ap foundId (at-found .found .given .1)))
+    same-part (previous-known _ _ _ (sym (at-if1 .before .is-over-long .ensures) ∙ at-if1 .if1 .left) _ (sym (at-find .find .ensures ∙ ap (idOf _) (at-find .before .name .ensures)) ∙ ap foundId (at-found .found .given .1)))
     (recoded (previous _) (c .before .before .instruction .ensures) (previous-code _))
 
 pub previous-spec : {M : Type 1} → statement M
 previous-spec =
     tie.close
-    (tie.spec
-    (λ c. search needs)
-    (λ c κs. search needs)
-    returns
-    (λ c κs. search needs)
-    (λ c κs. search needs)
-    (λ c. search needs)
-    (λ c. search needs)
-    returns-2
-    instruction-requires
-    (λ c. search needs)
-    returns-3)
+    (tie.spec (λ c. search needs) (λ c κs. search needs) returns (λ c κs. search needs) (λ c κs. search needs) (λ c. search needs)
+    (λ c. search needs) returns-2 instruction-requires (λ c. search needs) returns-3)

@@ -22,10 +22,4 @@ unfolding productOf is kindNumber
 returns-4 c = λ k e. rw (← e, ne-eqb _ _ (c .before .before .if1 .left), ne-eqb _ _ (c .before .if2 .left), ne-eqb _ _ (c .if3 .left))
 
 pub product-code-spec : {M : Type 1} → statement M
-product-code-spec =
-    tie.close
-    (tie.spec
-    returns
-    returns-2
-    returns-3
-    returns-4)
+product-code-spec = tie.close (tie.spec returns returns-2 returns-3 returns-4)

@@ -18,9 +18,4 @@ unfolding sumOf is kindNumber
 returns-3 c = λ k e. rw (← e, ne-eqb _ _ (c .before .if1 .left), ne-eqb _ _ (c .if2 .left))
 
 pub sum-code-spec : {M : Type 1} → statement M
-sum-code-spec =
-    tie.close
-    (tie.spec
-    returns
-    returns-2
-    returns-3)
+sum-code-spec = tie.close (tie.spec returns returns-2 returns-3)

@@ -9,9 +9,4 @@ unfolding wholeExpression
 returns c = c .before .before .expression .ensures
 
 pub whole-expression-spec : {M : Type 1} → statement M
-whole-expression-spec =
-    tie.close
-    (tie.spec
-    (λ c κs. search needs)
-    (λ c. search needs)
-    returns)
+whole-expression-spec = tie.close (tie.spec (λ c κs. search needs) (λ c. search needs) returns)

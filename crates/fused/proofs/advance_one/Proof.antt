@@ -5,12 +5,11 @@ use native.Mathlib.Omega.{arith}
 use lib.ListN.{getD}
 use Rattle.leb128.specs.Results.{unsignedRead}
 use Rattle.bytecode.specs.Instructions.{instructionOf, operationOf, comparisonOf, hasOperand}
-use Rattle.bytecode.proofs.Codes.{operation-of, comparison-of, none-below, none-above, from-four, above}
+use Rattle.bytecode.proofs.Codes.{operation-of, comparison-of, none-below, none-above, from-four, above, no-operand}
 use Rattle.bytecode.proofs.Fetching.{number-within}
 use Rattle.checker.specs.Inner.Walk.{knownOf}
 use Rattle.checker.proofs.Steps.{operation-is, comparison-is, both-is, either-is, negate-is, negated-is, constant-is}
 use Rattle.machine.proofs.Codes.{calculated-is, related-is}
-use Rattle.machine.proofs.Fetches.{no-operand}
 use Rattle.fused.proofs.Joining.{arrives, breaks, breaks-otherwise, alone, with-operand, malformed}
 use borrow.Author.Needs.{needs}
 use Rattle.fused.proofs.advance_one.Statement.{statement}

@@ -4,8 +4,5 @@ use borrow.Author.Needs.{needs}
 use Rattle.fused.proofs.broken.Statement.{statement}
 use Rattle.fused.proofs.broken.Tie as tie
 
-returns-2 : tie.Need-returns-2
-returns-2 c = (refl, c .if1 .left)
-
 pub broken-spec : {M : Type 1} → statement M
-broken-spec = tie.close (tie.spec (λ c. search needs) (λ c. search needs) returns-2)
+broken-spec = tie.close (tie.spec (λ c. search needs) (λ c. search needs) (λ c. (refl, c .if1 .left)))

@@ -6,11 +6,10 @@ use native.Mathlib.Omega.{arith}
 use lib.ListN.{getD}
 use Rattle.leb128.specs.Results.{unsignedRead}
 use Rattle.bytecode.specs.Instructions.{instructionOf, operationOf, hasOperand}
-use Rattle.bytecode.proofs.Codes.{operation-of, none-below, from-four, past}
+use Rattle.bytecode.proofs.Codes.{operation-of, none-below, from-four, past, no-operand}
 use Rattle.bytecode.proofs.Fetching.{number-within}
 use Rattle.checker.specs.Inner.Walk.{knownOf}
 use Rattle.checker.proofs.Steps.{operation-is, negate-is, constant-is}
-use Rattle.machine.proofs.Fetches.{no-operand}
 use Rattle.fused.proofs.Joining.{breaks-otherwise, alone, with-operand, malformed}
 use Rattle.fused.proofs.Passing.{passes, open-breaks}
 use borrow.Author.Needs.{needs}

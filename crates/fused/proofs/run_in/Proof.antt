@@ -50,9 +50,6 @@ returns c = absurd (subst (λ x. LeapsFirst (c .before .before .before .before .
 returns-2 : tie.Need-returns-2 Inv-loop μ-loop Inv-code μ-code
 returns-2 c = fusing-broken (c .before .before .before .before .before .before .code .inv) (subst (λ x. LeapsFirst (c .before .before .before .before .before .before .before .before .before .args .code .now) (c .before .before .before .before .before .before .code .b) x) (c .before .enum-told .given .1) (c .before .before .before .pass-first .ensures)) (omega (arith, c .before .before .before .before .if1 .taken)) _ (c .broken .result) (c .broken .ensures)
 
-loop-holds : tie.Need-loop-holds Inv-loop μ-loop Inv-code μ-code
-loop-holds c = (omega arith, inr refl, λ cur₁ vals₁ f. f)
-
 -- the inner loop ends with the code
 code-less : tie.Need-code-less Inv-loop μ-loop Inv-code μ-code
 code-less c = omega (arith, c .if2 .left, c .before .before .before .before .before .before .before .if1 .taken)
@@ -153,6 +150,6 @@ run-in-spec =
     tie.close
     (tie.spec Inv-loop μ-loop Inv-code μ-code
     initial-requires code-holds pass-first-requires (λ c. search needs) add-steps (λ c. search needs) (λ c. search needs) (λ c. search needs) returns (λ c. search needs) (λ c κs. search needs) (λ c. search needs) (λ c. search needs) returns-2
-    loop-holds code-less code-again code-less-2 code-again-2 act-requires add-steps-2 code-less-3 code-again-3 advance-ahead-requires (λ c. search needs) add-steps-3 loop-less loop-again
+    (λ c. (omega arith, inr refl, λ cur₁ vals₁ f. f)) code-less code-again code-less-2 code-again-2 act-requires add-steps-2 code-less-3 code-again-3 advance-ahead-requires (λ c. search needs) add-steps-3 loop-less loop-again
     (λ c. search needs) add-refused refused-requires same-length-5 same-length-6 returns-3 (λ c. search needs) (λ c κs. search needs) same-length-7 same-length-8 returns-4 complete-requires
     (λ c. search needs) (λ c. search needs) returns-5 (λ c. search needs) (λ c. search needs) returns-6)

@@ -10,12 +10,6 @@ use Rattle.leb128.proofs.Laws.{low-below, joined-large}
 use Rattle.leb128.proofs.last.Statement.{statement}
 use Rattle.leb128.proofs.last.Tie as tie
 
-mul-v : tie.Need-mul-v
-mul-v c = omega (arith, low-below _ _ _ (c .pre .0) (c .pre .2))
-
-add-v : tie.Need-add-v
-add-v c = omega (arith, low-below _ _ _ (c .pre .0) (c .pre .2))
-
 returns : tie.Need-returns
 returns c =
     let a = c .before .args in
@@ -40,4 +34,4 @@ returns-4 c =
     rw (lt-leb 1 (a .b) (omega arith), ne-eqb (a .scale) 1 (λ e. omega arith))
 
 pub last-spec : {M : Type 1} → statement M
-last-spec = tie.close (tie.spec mul-v add-v returns (λ c. search needs) returns-2 (λ c. search needs) returns-3 returns-4)
+last-spec = tie.close (tie.spec (λ c. omega (arith, low-below _ _ _ (c .pre .0) (c .pre .2))) (λ c. omega (arith, low-below _ _ _ (c .pre .0) (c .pre .2))) returns (λ c. search needs) returns-2 (λ c. search needs) returns-3 returns-4)

@@ -30,16 +30,12 @@ last-requires c κs =
 returns : tie.Need-returns Inv-loop μ-loop
 returns c =
     let l = c .before .before .before .before .before .loop in
-    let s = c .before .before .before .before .before .before .before .args .s .now in
-    let e = c .before .before .wide .ensures in
-    c .last .ensures ∙ rw (l .inv .2, at-last s (l .i) (omega arith) (omega arith), e)
+    c .last .ensures ∙ rw (l .inv .2, at-last (c .before .before .before .before .before .before .before .args .s .now) (l .i) (omega arith) (omega arith), (c .before .before .wide .ensures))
 
 -- five groups, and another would follow
 returns-2 : tie.Need-returns-2 Inv-loop μ-loop
 returns-2 c =
-    let l = c .before .before .before .before .before .loop in
-    let e = c .before .before .wide .ensures in
-    sym (l .inv .2 ∙ joined-at _ _ _ _ (c .before .before .before .before .loop-test .taken) (omega arith) ∙ joined-over _ _ _ _ (omega arith))
+    sym (c .before .before .before .before .before .loop .inv .2 ∙ joined-at _ _ _ _ (c .before .before .before .before .loop-test .taken) (omega arith) ∙ joined-over _ _ _ _ (omega arith))
 
 -- what the groups so far count stays below what a 1 of the next counts
 stays-below : (c : tie.Else2 Inv-loop μ-loop) →
@@ -47,20 +43,11 @@ stays-below : (c : tie.Else2 Inv-loop μ-loop) →
     l .low + (c .before .before .wide .result - 128) * l .scale < l .scale * 128
 stays-below c =
     let l = c .before .before .before .before .before .loop in
-    let e = c .before .before .wide .ensures in
     low-below _ _ _ (l .inv .0) (omega (arith, c .before .before .before .shared-slice-known2 .given (l .i)))
-
-mul-low : tie.Need-mul-low Inv-loop μ-loop
-mul-low c = omega (arith, stays-below c)
-
-add-low : tie.Need-add-low Inv-loop μ-loop
-add-low c = omega (arith, stays-below c)
 
 loop-again : tie.Need-loop-again Inv-loop μ-loop
 loop-again c =
-    let l = c .before .before .before .before .before .loop in
-    let e = c .before .before .wide .ensures in
-    (omega (arith, stays-below c), omega arith, rw e (l .inv .2 ∙ joined-at _ _ _ _ (c .before .before .before .before .loop-test .taken) (omega arith)))
+    (omega (arith, stays-below c), omega arith, rw (c .before .before .wide .ensures) (c .before .before .before .before .before .loop .inv .2 ∙ joined-at _ _ _ _ (c .before .before .before .before .loop-test .taken) (omega arith)))
 
 -- cut short
 returns-3 : tie.Need-returns-3 Inv-loop μ-loop
@@ -70,19 +57,6 @@ returns-3 c = sym (c .before .loop .inv .2 ∙ rw (at-end _ _ (c .loop-test .lef
 pub long-at-spec : {M : Type 1} → statement M
 long-at-spec =
     tie.close
-    (tie.spec
-    Inv-loop
-    μ-loop
-    loop-holds
-    (λ c. search needs)
-    (λ c κs. search needs)
-    last-requires
-    returns
-    returns-2
-    mul-low
-    add-low
-    (λ c. search needs)
-    (λ c. search needs)
-    (λ c. search needs)
-    loop-again
-    returns-3)
+    (tie.spec Inv-loop μ-loop loop-holds (λ c. search needs) (λ c κs. search needs) last-requires returns returns-2
+    (λ c. omega (arith, stays-below c)) (λ c. omega (arith, stays-below c)) (λ c. search needs) (λ c. search needs) (λ c. search needs)
+    loop-again returns-3)

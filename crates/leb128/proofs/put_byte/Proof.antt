@@ -11,11 +11,5 @@ use Rattle.leb128.proofs.put_byte.Tie as tie
 stored : (c : tie.Joined1) → c .if1 .out ≡ set (c .before .args .out .now) (c .before .args .at) (c .before .args .b)
 stored c = ⊎-elim (λ w. w .1) (λ w. w .1 ∙ sym (set-out _ _ _ (w .0 .left))) (c .if1 .came)
 
-same-length : tie.Need-same-length
-same-length c = ap length (stored c) ∙ simp length-set
-
-returns : tie.Need-returns
-returns c = (refl, stored c)
-
 pub put-byte-spec : {M : Type 1} → statement M
-put-byte-spec = tie.close (tie.spec (λ c. search needs) (λ c. search needs) same-length returns)
+put-byte-spec = tie.close (tie.spec (λ c. search needs) (λ c. search needs) (λ c. ap length (stored c) ∙ simp length-set) (λ c. (refl, stored c)))

@@ -6,10 +6,7 @@ use Rattle.leb128.proofs.put_signed.Tie as tie
 
 returns : tie.Need-returns
 returns c =
-    let z = c .before .before .before .zigzag in
-    let s = c .before .before .before .before .before .before in
-    let p = c .before .before .put-unsigned .ensures in
-    rw (same32 (s .fits .z)) at (rw (z .ensures .0) at p)
+    rw (same32 (c .before .before .before .before .before .before .fits .z)) at (rw (c .before .before .before .zigzag .ensures .0) at (c .before .before .put-unsigned .ensures))
 
 pub put-signed-spec : {M : Type 1} → statement M
 put-signed-spec = tie.close (tie.spec (λ c κs. search needs) (λ c κs. search needs) (λ c. search needs) returns)

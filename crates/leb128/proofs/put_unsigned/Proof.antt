@@ -1,7 +1,7 @@
 -- `leb128::put_unsigned` meets its contract. The loop's invariant: the groups of what is left, stored from here, make the whole.
 -- Assumes nothing.
 use mathlib.Core.Path.{_≡_, refl, ap, _∙_}
-use Prim.Native.Nat.{ℕ, _+_, _/_, _^_, _≤_, _<_}
+use Prim.Native.Nat.{_+_, _/_, _^_, _<_}
 use native.Mathlib.Numerals.{add-one}
 use native.Mathlib.Omega.{arith}
 use lib.ListN.{length}
@@ -19,24 +19,8 @@ Inv-loop out₀ at n rest₀ i₀ out rest i =
 abbrev μ-loop : tie.MeasureT-loop
 μ-loop out₀ at n rest₀ i₀ out rest i = rest
 
--- the place is small
-place : (at i a b : ℕ) → at < 2 ^ 31 → b ≤ 5 → i + a ≡ at + b → i < 2 ^ 32
-place at i a b h l e = omega arith
-
-loop-holds : tie.Need-loop-holds Inv-loop μ-loop
-loop-holds c = (search needs, refl, refl)
-
-add-put-byte : tie.Need-add-put-byte Inv-loop μ-loop
-add-put-byte c = omega arith
-
-cast-put-byte : tie.Need-cast-put-byte Inv-loop μ-loop
-cast-put-byte c = omega arith
-
 put-byte-requires : tie.Need-put-byte-requires Inv-loop μ-loop
 put-byte-requires c κs = omega (arith, at-most-five (c .before .before .before .before .args .n), c .before .before .loop .inv .1)
-
-loop-less : tie.Need-loop-less Inv-loop μ-loop
-loop-less c = omega arith
 
 loop-again : tie.Need-loop-again Inv-loop μ-loop
 loop-again c =
@@ -45,9 +29,6 @@ loop-again c =
     let more = groups-more (l .rest) (l .inv .0) (c .before .before .before .before .loop-test .taken) in
     let longer : length (number (l .rest)) ≡ length (number (l .rest / 128)) + 1 = rw (more, add-one) in
     (omega arith, omega arith, rw (p .ensures .1, p .ensures .0, add-one) (rw more at (l .inv .2)))
-
-cast-put-byte-2 : tie.Need-cast-put-byte-2 Inv-loop μ-loop
-cast-put-byte-2 c = omega arith
 
 put-byte-requires-2 : tie.Need-put-byte-requires-2 Inv-loop μ-loop
 put-byte-requires-2 c κs = omega (arith, at-most-five (c .before .before .before .before .args .n), c .before .before .loop .inv .1)
@@ -61,13 +42,9 @@ stored c =
     let e = groups-one (l .rest) (c .before .before .before .before .loop-test .left) in
     c .before .before .put-byte2 .ensures .1 ∙ (rw e at (l .inv .2))
 
-same-length : tie.Need-same-length Inv-loop μ-loop
-same-length c = ap length (stored c) ∙ simp length-sets
-
 returns : tie.Need-returns Inv-loop μ-loop
 returns c =
     let l = c .before .before .before .before .before .loop in
-    let p = c .before .before .put-byte2 in
     let e = groups-one (l .rest) (c .before .before .before .before .loop-test .left) in
     let one : length (number (l .rest)) ≡ 1 = rw e in
     (omega arith, stored c)
@@ -75,16 +52,5 @@ returns c =
 pub put-unsigned-spec : {M : Type 1} → statement M
 put-unsigned-spec =
     tie.close
-    (tie.spec
-    Inv-loop
-    μ-loop
-    loop-holds
-    add-put-byte
-    cast-put-byte
-    put-byte-requires
-    loop-less
-    loop-again
-    cast-put-byte-2
-    put-byte-requires-2
-    same-length
-    returns)
+    (tie.spec Inv-loop μ-loop (λ c. (search needs, refl, refl)) (λ c. omega arith) (λ c. omega arith) put-byte-requires (λ c. omega arith)
+    loop-again (λ c. omega arith) put-byte-requires-2 (λ c. ap length (stored c) ∙ simp length-sets) returns)

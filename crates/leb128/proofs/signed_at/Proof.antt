@@ -22,16 +22,14 @@ returns c = ap signed (sym (ap unsignedRead (c .enum-told .given .1)) ∙ c .bef
 
 unzigzag-requires : tie.Need-unzigzag-requires
 unzigzag-requires c κs =
-    let r = c .before .before .before in
-    subst Below32 (sym (r .unsigned-at .ensures) ∙ ap unsignedRead (c .before .u .given .1)) (below _ _)
+    subst Below32 (sym (c .before .before .before .unsigned-at .ensures) ∙ ap unsignedRead (c .before .u .given .1)) (below _ _)
 
 returns-2 : tie.Need-returns-2
 unfolding signedAt
 returns-2 c =
-    let r = c .before .before .before .before in
     let f : SFits w32 (c .unzigzag .result) = search needs in
     rw (toZ-ofZ {w = w32} f, c .unzigzag .ensures)
-    (ap signed (sym (ap unsignedRead (c .before .before .u .given .1)) ∙ r .unsigned-at .ensures))
+    (ap signed (sym (ap unsignedRead (c .before .before .u .given .1)) ∙ (c .before .before .before .before) .unsigned-at .ensures))
 
 pub signed-at-spec : {M : Type 1} → statement M
 signed-at-spec = tie.close (tie.spec (λ c κs. search needs) (λ c. search needs) (λ c. search needs) returns unzigzag-requires returns-2)

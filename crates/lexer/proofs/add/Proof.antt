@@ -4,8 +4,5 @@ use mathlib.Core.Path.{refl}
 use Rattle.lexer.proofs.add.Statement.{statement}
 use Rattle.lexer.proofs.add.Tie as tie
 
-returns : tie.Need-returns
-returns c = (refl, refl)
-
 pub add-spec : {M : Type 1} → statement M
-add-spec = tie.close (tie.spec (λ c. search needs) (λ c. search needs) (λ c. search needs) (λ c. search needs) (λ c. search needs) (λ c. search needs) returns)
+add-spec = tie.close (tie.spec (λ c. search needs) (λ c. search needs) (λ c. search needs) (λ c. search needs) (λ c. search needs) (λ c. search needs) (λ c. (refl, refl)))

@@ -16,9 +16,6 @@ Inv-loop text starts ends count spelled i₀ i = idFrom (tableNames text (drop i
 abbrev μ-loop : tie.MeasureT-loop
 μ-loop text starts ends count spelled i₀ i = count - i
 
-loop-holds : tie.Need-loop-holds Inv-loop μ-loop
-loop-holds c = id-start _ _ _ _ _
-
 mul-s : tie.Need-mul-s Inv-loop μ-loop
 mul-s c =
     let start = c .before .before .before .before .before .before in
@@ -39,22 +36,17 @@ returns : tie.Need-returns Inv-loop μ-loop
 returns c =
     let l = c .before .before .before .before .before in
     let at-loop = l .before in
-    let start = at-loop .before .before .before .before .before in
-    sym (id-here _ _ _ _ _ (start .pre) _ (l .loop-test .taken)
+    sym (id-here _ _ _ _ _ (at-loop .before .before .before .before .before .pre) _ (l .loop-test .taken)
     (ap (sameName _) (sym (c .before .before .name .ensures)) ∙ sym (c .before .same-name .ensures) ∙ c .if1 .taken)) ∙ at-loop .loop .inv
 
 add-i : tie.Need-add-i Inv-loop μ-loop
 add-i c = omega (arith, c .before .before .before .before .before .before .before .before .before .before .before .pre .in-starts)
 
-loop-less : tie.Need-loop-less Inv-loop μ-loop
-loop-less c = omega arith
-
 loop-again : tie.Need-loop-again Inv-loop μ-loop
 loop-again c =
     let l = c .before .before .before .before .before in
     let at-loop = l .before in
-    let start = at-loop .before .before .before .before .before in
-    sym (id-next _ _ _ _ _ (start .pre) _ (l .loop-test .taken)
+    sym (id-next _ _ _ _ _ (at-loop .before .before .before .before .before .pre) _ (l .loop-test .taken)
     (ap (sameName _) (sym (c .before .before .name .ensures)) ∙ sym (c .before .same-name .ensures) ∙ c .if1 .left)) ∙ at-loop .loop .inv
 
 returns-2 : tie.Need-returns-2 Inv-loop μ-loop
@@ -63,4 +55,4 @@ returns-2 c = sym (id-none _ _ _ _ _ (c .before .before .before .before .before 
 pub find-spec : {M : Type 1} → statement M
 find-spec =
     tie.close
-    (tie.spec Inv-loop μ-loop loop-holds mul-s shared-slice-read-s mul-e shared-slice-read-e (λ c κs. search needs) (λ c κs. search needs) returns add-i loop-less loop-again returns-2)
+    (tie.spec Inv-loop μ-loop (λ c. id-start _ _ _ _ _) mul-s shared-slice-read-s mul-e shared-slice-read-e (λ c κs. search needs) (λ c κs. search needs) returns add-i (λ c. omega arith) loop-again returns-2)

@@ -13,16 +13,14 @@ returns : tie.Need-returns
 returns c =
     let l = c .before .before .before .before .before in
     let at-is-letter = l .before in
-    let at-byte-at = at-is-letter .before in
-    c .token .ensures ∙ previous-name _ _ _ (at-byte-at .byte-at .ensures) _ _ (sym (at-is-letter .is-letter .ensures) ∙ l .if1 .taken) (c .before .before .before .before .run .ensures)
+    c .token .ensures ∙ previous-name _ _ _ (at-is-letter .before .byte-at .ensures) _ _ (sym (at-is-letter .is-letter .ensures) ∙ l .if1 .taken) (c .before .before .before .before .run .ensures)
     (c .before .before .word .ensures ∙ ap (λ (w : List ℕ). kindNumber (wordOf w)) (c .before .before .before .name .ensures)) (c .before .if2 .taken)
 
 returns-2 : tie.Need-returns-2
 returns-2 c =
     let l = c .before .before .before .before in
     let at-is-letter = l .before in
-    let at-byte-at = at-is-letter .before in
-    previous-word _ _ _ (at-byte-at .byte-at .ensures) _ _ (sym (at-is-letter .is-letter .ensures) ∙ l .if1 .taken) (c .before .before .before .run .ensures)
+    previous-word _ _ _ (at-is-letter .before .byte-at .ensures) _ _ (sym (at-is-letter .is-letter .ensures) ∙ l .if1 .taken) (c .before .before .before .run .ensures)
     (c .before .word .ensures ∙ ap (λ (w : List ℕ). kindNumber (wordOf w)) (c .before .before .name .ensures)) (c .if2 .left)
 
 returns-3 : tie.Need-returns-3

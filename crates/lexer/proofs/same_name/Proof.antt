@@ -3,8 +3,5 @@ use borrow.Author.Needs.{needs}
 use Rattle.lexer.proofs.same_name.Statement.{statement}
 use Rattle.lexer.proofs.same_name.Tie as tie
 
-returns : tie.Need-returns
-returns c = c .same-capitals .ensures
-
 pub same-name-spec : {M : Type 1} → statement M
-same-name-spec = tie.close (tie.spec (λ c κs. search needs) returns)
+same-name-spec = tie.close (tie.spec (λ c κs. search needs) (λ c. c .same-capitals .ensures))

@@ -36,10 +36,5 @@ keep-start-requires c κs =
 pub begin-code-spec : {M : Type 1} → statement M
 begin-code-spec =
     tie.close
-    (tie.spec
-    slice-aggregate-keep-start
-    slice-aggregate-keep-start-2
-    slice-aggregate-keep-start-3
-    keep-start-requires
-    (λ c. search needs)
+    (tie.spec slice-aggregate-keep-start slice-aggregate-keep-start-2 slice-aggregate-keep-start-3 keep-start-requires (λ c. search needs)
     (λ c. search needs))

@@ -5,9 +5,6 @@ use mir.Syntax.{w32}
 use Rattle.lifecycle.proofs.put.Statement.{statement}
 use Rattle.lifecycle.proofs.put.Tie as tie
 
-returns : tie.Need-returns
-returns c = rw (toZ-pos w32 (c .pre .1))
-
 pub put-spec : {M : Type 1} → statement M
 put-spec = tie.close
-    (tie.spec (λ c. search needs) (λ c. search needs) (λ c. search needs) (λ c. search needs) returns)
+    (tie.spec (λ c. search needs) (λ c. search needs) (λ c. search needs) (λ c. search needs) (λ c. rw (toZ-pos w32 (c .pre .1))))

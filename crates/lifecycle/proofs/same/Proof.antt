@@ -24,9 +24,6 @@ abbrev μ-loop : tie.MeasureT-loop
 returns : tie.Need-returns Inv-loop μ-loop
 returns c = sym (differ-long (c .before .args .a .now) (c .before .args .b .now) (c .if1 .taken))
 
-loop-holds : tie.Need-loop-holds Inv-loop μ-loop
-loop-holds c = record { among = omega arith; long = c .if1 .left; rest = refl }
-
 returns-2 : tie.Need-returns-2 Inv-loop μ-loop
 unfolding compares
 returns-2 c =
@@ -51,5 +48,5 @@ returns-3 c = comparing-ends (c .before .loop .inv) (c .loop-test .left)
 pub same-spec : {M : Type 1} → statement M
 same-spec =
     tie.close
-    (tie.spec Inv-loop μ-loop returns loop-holds (λ c. search needs) (λ c. search needs) (λ c. search needs) (λ c. search needs) (λ c κs. search needs)
+    (tie.spec Inv-loop μ-loop returns (λ c. record { among = omega arith; long = c .if1 .left; rest = refl }) (λ c. search needs) (λ c. search needs) (λ c. search needs) (λ c. search needs) (λ c κs. search needs)
     returns-2 (λ c. search needs) (λ c. search needs) loop-again returns-3)

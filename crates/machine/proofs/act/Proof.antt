@@ -25,16 +25,14 @@ unfolding instructionOf
 returns-2 c =
     let start = c .before .before .before .before .before in
     let a = start .args in
-    let current = start .pre .1 .0 .current in
-    (λ ns r. c .before .load .ensures .0 (a .cur .now) ∙ rw (c .before .before .before .before .match .keys2, names-length (ns .ranges) (a .low .now) (a .high .now) r, current), c .before .load .ensures .1)
+    (λ ns r. c .before .load .ensures .0 (a .cur .now) ∙ rw (c .before .before .before .before .match .keys2, names-length (ns .ranges) (a .low .now) (a .high .now) r, (start .pre .1 .0 .current)), c .before .load .ensures .1)
 
 returns-3 : tie.Need-returns-3
 unfolding instructionOf
 returns-3 c =
     let start = c .before .before .before .before in
     let a = start .args in
-    let previous = start .pre .1 .0 .previous in
-    (λ ns r. c .before .load2 .ensures .0 (a .cur .now) ∙ rw (c .before .before .before .match .keys3, names-length (ns .ranges) (a .low .now) (a .high .now) r, previous), c .before .load2 .ensures .1)
+    (λ ns r. c .before .load2 .ensures .0 (a .cur .now) ∙ rw (c .before .before .before .match .keys3, names-length (ns .ranges) (a .low .now) (a .high .now) r, (start .pre .1 .0 .previous)), c .before .load2 .ensures .1)
 
 returns-4 : tie.Need-returns-4
 unfolding instructionOf
@@ -51,14 +49,12 @@ returns-5 c =
 returns-6 : tie.Need-returns-6
 unfolding instructionOf truthOf
 returns-6 c =
-    let a = c .before .before .before .before .args in
-    (λ ns r. c .before .relate .ensures .0 (a .cur .now) ∙ rw (c .before .before .before .match .keys6), c .before .relate .ensures .1)
+    (λ ns r. c .before .relate .ensures .0 (c .before .before .before .before .args .cur .now) ∙ rw (c .before .before .before .match .keys6), c .before .relate .ensures .1)
 
 returns-7 : tie.Need-returns-7
 unfolding instructionOf truthOf
 returns-7 c =
-    let a = c .before .before .before .before .args in
-    (λ ns r. c .before .relate2 .ensures .0 (a .cur .now) ∙ rw (c .before .before .before .match .keys7), c .before .relate2 .ensures .1)
+    (λ ns r. c .before .relate2 .ensures .0 (c .before .before .before .before .args .cur .now) ∙ rw (c .before .before .before .match .keys7), c .before .relate2 .ensures .1)
 
 returns-8 : tie.Need-returns-8
 unfolding instructionOf
@@ -93,8 +89,7 @@ returns-13 c = (λ ns r. c .before .fall .ensures .0 ns r ∙ rw (c .before .bef
 returns-14 : tie.Need-returns-14
 returns-14 c =
     let at-match = c .before .before .before .before .before in
-    let start = at-match .before in
-    let a = start .args in
+    let a = at-match .before .args in
     let r = at-match .match .rest in
     let e =
     operation-code (a .code) (a .n) (c .before .before .before .before .if1 .left) (c .before .before .before .if2 .taken)
@@ -104,8 +99,7 @@ returns-14 c =
 returns-15 : tie.Need-returns-15
 returns-15 c =
     let at-match = c .before .before .before .before .before .before in
-    let start = at-match .before in
-    let a = start .args in
+    let a = at-match .before .args in
     let below = c .before .before .before .if3 .taken in
     let e = comparison-code (a .code) (a .n) (c .before .before .before .before .if2 .left) below (at-match .match .rest .0 .0 .0 .0 .0 .0 .0 .0 .0 .1) in
     (λ ns q. c .before .relate3 .ensures .0 (a .cur .now) ∙ related-same _ _ _ (heldOf (a .vals .now) (a .m .held)) (a .cur .now) (λ x y. truth-comparison (a .code) x y below) ∙ rw e, c .before .relate3 .ensures .1)

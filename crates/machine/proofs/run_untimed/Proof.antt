@@ -68,9 +68,6 @@ returns-2 c =
 
 -- ---- the inner loop
 
-loop2-holds : tie.Need-loop2-holds Inv-loop2 μ-loop2 Inv-loop μ-loop
-loop2-holds c = (omega arith, inr refl, λ cur₁ vals₁ m g. g)
-
 -- it ends with the budget
 loop-less : tie.Need-loop-less Inv-loop2 μ-loop2 Inv-loop μ-loop
 loop-less c = omega (arith, c .loop2-test .left, c .before .before .before .before .before .before .before .loop-test .taken)
@@ -177,7 +174,7 @@ run-untimed-spec =
     tie.close
     (tie.spec Inv-loop2 μ-loop2 Inv-loop μ-loop loop-holds (λ c κs. search needs) (λ c. search needs) (λ c. search needs) returns (λ c. search needs)
     pass-first-requires (λ c. search needs) add-done (λ c. search needs) (λ c. search needs) (λ c κs. search needs) (λ c. search needs)
-    (λ c. search needs) returns-2 loop2-holds loop-less loop-again loop-less-2 loop-again-2 (λ c κs. search needs) same-length-5 same-length-6
+    (λ c. search needs) returns-2 (λ c. (omega arith, inr refl, λ cur₁ vals₁ m g. g)) loop-less loop-again loop-less-2 loop-again-2 (λ c κs. search needs) same-length-5 same-length-6
     returns-3 (λ c. search needs) dispatch-requires (λ c. search needs) add-done-2 loop2-less loop2-again (λ c. search needs) (λ c. search needs)
     (λ c κs. search needs) same-length-7 same-length-8 returns-4 (λ c. search needs) (λ c. search needs) (λ c κs. search needs) same-length-9
     same-length-10 returns-5 (λ c κs. search needs) same-length-11 same-length-12 returns-6 (λ c κs. search needs) (λ c. search needs)

@@ -14,13 +14,9 @@ returns c =
 returns-2 : tie.Need-returns-2
 returns-2 c =
     let at-if1 = c .before .before .before .before .before in
-    let start = at-if1 .before in
-    let a = start .args in
+    let a = at-if1 .before .args in
     let r = c .before .before .act .ensures in
-    let go = at-if1 .if1 .left in
-    (λ ns q. r .0 ns q ∙ act-stepped ns (a .prev .now) (instructionOf (a .code) (a .n)) (a .m .passing) (a .m .picked) _ (a .cur .now) go, r .1)
+    (λ ns q. r .0 ns q ∙ act-stepped ns (a .prev .now) (instructionOf (a .code) (a .n)) (a .m .passing) (a .m .picked) _ (a .cur .now) (at-if1 .if1 .left), r .1)
 
 pub step-spec : {M : Type 1} → statement M
-step-spec =
-    tie.close
-    (tie.spec (λ c κs. search needs) returns (λ c κs. search needs) (λ c. search needs) (λ c. search needs) returns-2)
+step-spec = tie.close (tie.spec (λ c κs. search needs) returns (λ c κs. search needs) (λ c. search needs) (λ c. search needs) returns-2)

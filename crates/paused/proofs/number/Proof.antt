@@ -5,8 +5,5 @@ use mir.Syntax.{w32}
 use Rattle.paused.proofs.number.Statement.{statement}
 use Rattle.paused.proofs.number.Tie as tie
 
-returns : tie.Need-returns
-returns c = toZ-pos w32 (c .pre)
-
 pub number-spec : {M : Type 1} → statement M
-number-spec = tie.close (tie.spec (λ c. search needs) returns)
+number-spec = tie.close (tie.spec (λ c. search needs) (λ c. toZ-pos w32 (c .pre)))

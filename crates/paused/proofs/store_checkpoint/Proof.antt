@@ -12,9 +12,6 @@ flag-small : (b : Bool) → flagOf b < 2 ^ 31
 flag-small true = omega arith
 flag-small false = omega arith
 
-number-requires-2 : tie.Need-number-requires-2
-number-requires-2 c κs = search needs
-
 returns : tie.Need-returns
 returns c =
     let h = c .before .before .before .before .before .before .before .before .before .before .before .before .pre .1 in
@@ -34,5 +31,5 @@ returns c =
 pub store-checkpoint-spec : {M : Type 1} → statement M
 store-checkpoint-spec =
     tie.close
-    (tie.spec (λ c κs. search needs) (λ c. search needs) number-requires-2 (λ c κs. search needs) (λ c κs. search needs) (λ c κs. search needs)
+    (tie.spec (λ c κs. search needs) (λ c. search needs) (λ c κs. search needs) (λ c κs. search needs) (λ c κs. search needs) (λ c κs. search needs)
     (λ c κs. search needs) (λ c κs. search needs) (λ c. search needs) (λ c κs. search needs) (λ c. search needs) returns)

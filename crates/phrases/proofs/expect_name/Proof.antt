@@ -23,16 +23,14 @@ unfolding kindOf kindNumber
 returns-2 c =
     let at-if1 = c .before .before .before .before .before in
     let at-read = at-if1 .before .before .before in
-    let at-token-at = at-read .before .before in
-    wanted _ _ _ (at-token-at .token-at .ensures) (at-read .read .given .1) (c .reached .ensures) (rw (kind-is _ name (at-if1 .if1 .taken), compared (c .before .before) ∙ c .before .if2 .taken))
+    wanted _ _ _ (at-read .before .before .token-at .ensures) (at-read .read .given .1) (c .reached .ensures) (rw (kind-is _ name (at-if1 .if1 .taken), compared (c .before .before) ∙ c .before .if2 .taken))
 
 returns-3 : tie.Need-returns-3
 unfolding kindOf kindNumber
 returns-3 c =
     let at-if1 = c .before .before .before .before in
     let at-read = at-if1 .before .before .before in
-    let at-token-at = at-read .before .before in
-    unwanted _ _ _ (at-token-at .token-at .ensures) (at-read .read .given .1) (rw (kind-is _ name (at-if1 .if1 .taken), compared (c .before) ∙ c .if2 .left))
+    unwanted _ _ _ (at-read .before .before .token-at .ensures) (at-read .read .given .1) (rw (kind-is _ name (at-if1 .if1 .taken), compared (c .before) ∙ c .if2 .left))
 
 returns-4 : tie.Need-returns-4
 unfolding kindOf kindNumber

@@ -17,8 +17,7 @@ returns-3 : tie.Need-returns-3
 unfolding kindOf
 returns-3 c =
     let at-first = c .before .before .before .before .before .before in
-    let at-expect = at-first .before .before in
-    goes-on _ _ _ _ (at-expect .expect .ensures) (at-first .first .given .1) (goes-on _ _ _ _ (c .before .before .before .before .expect2 .ensures) (c .before .before .second .given .1) (last _ _ _ (c .expect3 .ensures)))
+    goes-on _ _ _ _ (at-first .before .before .expect .ensures) (at-first .first .given .1) (goes-on _ _ _ _ (c .before .before .before .before .expect2 .ensures) (c .before .before .second .given .1) (last _ _ _ (c .expect3 .ensures)))
 
 pub rule-opening-spec : {M : Type 1} → statement M
 rule-opening-spec =

@@ -17,8 +17,7 @@ returns-3 : tie.Need-returns-3
 unfolding kindOf
 returns-3 c =
     let at-first = c .before .before .before .before .before .before in
-    let at-expect-name = at-first .before .before in
-    goes-on _ _ _ _ (at-expect-name .expect-name .ensures) (at-first .first .given .1) (goes-on _ _ _ _ (c .before .before .before .before .expect .ensures) (c .before .before .second .given .1) (last _ _ _ (c .expect2 .ensures)))
+    goes-on _ _ _ _ (at-first .before .before .expect-name .ensures) (at-first .first .given .1) (goes-on _ _ _ _ (c .before .before .before .before .expect .ensures) (c .before .before .second .given .1) (last _ _ _ (c .expect2 .ensures)))
 
 pub value-opening-spec : {M : Type 1} → statement M
 value-opening-spec =

@@ -5,8 +5,5 @@ use borrow.Author.Needs.{needs}
 use Rattle.replay.proofs.store_number.Statement.{statement}
 use Rattle.replay.proofs.store_number.Tie as tie
 
-returns-2 : tie.Need-returns-2
-returns-2 c = sym (set-out _ _ _ (c .if1 .left))
-
 pub store-number-spec : {M : Type 1} → statement M
-store-number-spec = tie.close (tie.spec (λ c. search needs) (λ c. search needs) (λ c. search needs) returns-2)
+store-number-spec = tie.close (tie.spec (λ c. search needs) (λ c. search needs) (λ c. search needs) (λ c. sym (set-out _ _ _ (c .if1 .left))))

@@ -5,8 +5,5 @@ use borrow.Author.Needs.{needs}
 use Rattle.replay.proofs.store_steps.Statement.{statement}
 use Rattle.replay.proofs.store_steps.Tie as tie
 
-returns-2 : tie.Need-returns-2
-returns-2 c = sym (set-out _ _ _ (c .if1 .left))
-
 pub store-steps-spec : {M : Type 1} → statement M
-store-steps-spec = tie.close (tie.spec (λ c. search needs) (λ c. search needs) (λ c. search needs) (λ c. search needs) returns-2)
+store-steps-spec = tie.close (tie.spec (λ c. search needs) (λ c. search needs) (λ c. search needs) (λ c. search needs) (λ c. sym (set-out _ _ _ (c .if1 .left))))

@@ -4,7 +4,8 @@ use native.Mathlib.Omega.{arith}
 use borrow.Author.Needs.{needs}
 use Rattle.limits.specs.Limits.{imageLimit}
 use Rattle.paused.proofs.Clipped.{CheckpointWithin, checkpoint-within, LayoutWithin, layout-within}
-use Rattle.resumable.proofs.Advancing.{advance-other, advance-past, advance-goes, rest-is, rest-short}
+use Rattle.leb128.proofs.Stores.{rest-of}
+use Rattle.resumable.proofs.Advancing.{advance-other, advance-past, advance-goes, rest-short}
 use Rattle.resumable.proofs.advance_scan.Statement.{statement}
 use Rattle.resumable.proofs.advance_scan.Tie as tie
 
@@ -52,7 +53,7 @@ returns-3 c =
     let u = c .before .before .before .before .before .before .before .before .before .before .before .before .before .before .pre in
     let y : a .p .phase ≡ 0 → ⊥ = λ q. omega (arith, u .phase) in
     let f = c .before .before .before .before .before .before .before .before .before .before .before .layout-in in
-    let r = rw (rest-is (f .result .base) (a .image .now), c .before .before .before .before .before .before .least .ensures) at (c .before .advance-untimed .ensures .0) in (
+    let r = rw (rest-of (a .image .now) (f .result .base), c .before .before .before .before .before .before .least .ensures) at (c .before .advance-untimed .ensures .0) in (
       r ∙ advance-goes (a .image .now) (a .steps) (a .paused .now) (u .cells) (a .p) (u .stands) y (u .phase) (u .some) (f .result) (f .ensures) (c .before .before .before .before .before .before .before .before .before .if1 .left) (c .before .before .before .before .before .before .before .if2 .left),
       omega (arith, c .before .before .before .before .before .before .least .ensures, c .before .advance-untimed .ensures .1),
     )
@@ -79,7 +80,7 @@ returns-4 c =
     let u = c .before .before .before .before .before .before .before .before .before .before .before .before .before .before .pre in
     let y : a .p .phase ≡ 0 → ⊥ = λ q. omega (arith, u .phase) in
     let f = c .before .before .before .before .before .before .before .before .before .before .before .layout-in in
-    let r = rw (rest-is (f .result .base) (a .image .now), c .before .before .before .before .before .before .least .ensures, ← f .ensures) at (c .before .advance-timed .ensures .0) in (
+    let r = rw (rest-of (a .image .now) (f .result .base), c .before .before .before .before .before .before .least .ensures, ← f .ensures) at (c .before .advance-timed .ensures .0) in (
       r ∙ advance-goes (a .image .now) (a .steps) (a .paused .now) (u .cells) (a .p) (u .stands) y (u .phase) (u .some) (f .result) (f .ensures) (c .before .before .before .before .before .before .before .before .before .if1 .left) (c .before .before .before .before .before .before .before .if2 .left),
       omega (arith, c .before .before .before .before .before .before .least .ensures, c .before .advance-timed .ensures .1),
     )

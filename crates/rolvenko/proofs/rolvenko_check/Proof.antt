@@ -19,6 +19,4 @@ returns-2 : tie.Need-returns-2
 returns-2 c = c .pack .ensures ∙ ap packedCheck (sym (ap checkedAnswer (c .before .before .number .given .1)) ∙ c .before .before .before .before .check .ensures .0)
 
 pub rolvenko-check-spec : {M : Type 1} → statement M
-rolvenko-check-spec =
-    tie.close
-    (tie.spec (λ c κs. search needs) (λ c. search needs) (λ c. search needs) pack-requires returns returns-2)
+rolvenko-check-spec = tie.close (tie.spec (λ c κs. search needs) (λ c. search needs) (λ c. search needs) pack-requires returns returns-2)

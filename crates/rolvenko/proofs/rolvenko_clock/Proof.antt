@@ -1,21 +1,15 @@
 -- `rolvenko::rolvenko_clock` meets its contract. Assumes nothing.
-use mathlib.Core.Path.{_≡_, sym, ap, subst, _∙_}
-use mathlib.Core.List.{List}
+use mathlib.Core.Path.{ap, subst, _∙_}
 use native.Mathlib.Omega.{arith}
 use borrow.Author.Needs.{needs}
-use lib.IntN.{ℤ}
 use mir.Syntax.{w64}
 use mir.Facts.{toZ-ofZ}
-use Rattle.clock.specs.declared.Filled.{Filled}
 use Rattle.clock.specs.Services.{AfterFill}
 use Rattle.clock.specs.Results.{afterFill, FilledWithin}
 use Rattle.rolvenko.specs.Packed.{packedCheck}
 use Rattle.rolvenko.proofs.rolvenko_clock.Statement.{statement}
 use Rattle.rolvenko.proofs.rolvenko_clock.Tie as tie
-
--- the answer r with the row left is the definition's
-answered : {r q : Filled} {left : List ℤ} {d : AfterFill} → r ≡ q → afterFill r left ≡ d → packedCheck (afterFill q left .answer) ≡ packedCheck (d .answer)
-answered {left = left} e h = ap (λ (x : Filled). packedCheck (afterFill x left .answer)) (sym e) ∙ ap {A = AfterFill} (λ x. packedCheck (x .answer)) h
+use Rattle.rolvenko.proofs.Answered.{answers}
 
 pack-requires : tie.Need-pack-requires
 pack-requires c κs =
@@ -25,12 +19,12 @@ pack-requires c κs =
 returns : tie.Need-returns
 returns c =
     let e = rw (toZ-ofZ {w = w64} (c .before .before .before .before .before .before .fits .utc)) at (c .before .before .before .fill .ensures .0) in
-    (answered (c .enum-told .given .1) e, ap {A = AfterFill} (λ x. x .row) e)
+    (answers (λ (x : AfterFill). packedCheck (x .answer)) afterFill (c .enum-told .given .1) e, ap {A = AfterFill} (λ x. x .row) e)
 
 returns-2 : tie.Need-returns-2
 returns-2 c =
     let e = rw (toZ-ofZ {w = w64} (c .before .before .before .before .before .before .before .before .fits .utc)) at (c .before .before .before .before .before .fill .ensures .0) in
-    (c .pack .ensures ∙ answered (c .before .before .number .given .1) e, ap {A = AfterFill} (λ x. x .row) e)
+    (c .pack .ensures ∙ answers (λ (x : AfterFill). packedCheck (x .answer)) afterFill (c .before .before .number .given .1) e, ap {A = AfterFill} (λ x. x .row) e)
 
 pub rolvenko-clock-spec : {M : Type 1} → statement M
 rolvenko-clock-spec =

@@ -19,6 +19,4 @@ returns-2 : tie.Need-returns-2
 returns-2 c = c .pack .ensures ∙ answered (c .before .before .answer .given .1) (c .before .before .before .before .closed-profile .ensures .0)
 
 pub rolvenko-closed-spec : {M : Type 1} → statement M
-rolvenko-closed-spec =
-    tie.close
-    (tie.spec (λ c κs. search needs) (λ c. search needs) (λ c. search needs) pack-requires returns returns-2)
+rolvenko-closed-spec = tie.close (tie.spec (λ c κs. search needs) (λ c. search needs) (λ c. search needs) pack-requires returns returns-2)

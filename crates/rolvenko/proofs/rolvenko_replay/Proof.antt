@@ -1,5 +1,5 @@
 -- `rolvenko::rolvenko_replay` meets its contract: places and lengths are at most the image's limit, so they fit. Assumes nothing.
-use mathlib.Core.Path.{_≡_, sym, ap, subst, _∙_}
+use mathlib.Core.Path.{_≡_, ap, subst, _∙_}
 use mathlib.Core.List.{List}
 use Prim.Native.Nat.{ℕ}
 use native.Mathlib.Omega.{arith}
@@ -12,10 +12,7 @@ use Rattle.replay.specs.Results.{afterReplay, ShownBy, ReplayedWithin}
 use Rattle.rolvenko.specs.Packed.{packedTranslation}
 use Rattle.rolvenko.proofs.rolvenko_replay.Statement.{statement}
 use Rattle.rolvenko.proofs.rolvenko_replay.Tie as tie
-
--- the answer r with the memory left is the definition's
-answered : {r q : Replayed} {left : Lent} {d : AfterReplay} → r ≡ q → afterReplay r left ≡ d → packedTranslation (afterReplay q left .answer) ≡ packedTranslation (d .answer)
-answered {left = left} e h = ap (λ (x : Replayed). packedTranslation (afterReplay x left .answer)) (sym e) ∙ ap {A = AfterReplay} (λ x. packedTranslation (x .answer)) h
+use Rattle.rolvenko.proofs.Answered.{answers}
 
 -- so demand 3 holds where the definition's answer is no refusal
 shown : (text lengths : List ℕ) (cells : List ℤ) (m left : Lent) (r : Replayed) → afterReplay r left ≡ replayOf text cells lengths m → ShownBy r text cells lengths m left
@@ -36,13 +33,13 @@ returns : tie.Need-returns
 returns c =
     let r = c .before .before .before .before .before .before .before .before .before .before .before .before .replay in
     let e = r .ensures .0 in
-    (c .pack .ensures ∙ answered (c .before .before .length .given .1) e, (ap {A = AfterReplay} (λ x. x .left) e, shown _ _ _ _ _ (r .result) e (r .ensures .1 .0)))
+    (c .pack .ensures ∙ answers (λ (x : AfterReplay). packedTranslation (x .answer)) afterReplay (c .before .before .length .given .1) e, (ap {A = AfterReplay} (λ x. x .left) e, shown _ _ _ _ _ (r .result) e (r .ensures .1 .0)))
 
 returns-2 : tie.Need-returns-2
 returns-2 c =
     let r = c .before .before .before .before .before .before .before .before .before .before .before .before .replay in
     let e = r .ensures .0 in
-    (c .pack2 .ensures ∙ answered (c .before .before .number .given .1) e, (ap {A = AfterReplay} (λ x. x .left) e, shown _ _ _ _ _ (r .result) e (r .ensures .1 .0)))
+    (c .pack2 .ensures ∙ answers (λ (x : AfterReplay). packedTranslation (x .answer)) afterReplay (c .before .before .number .given .1) e, (ap {A = AfterReplay} (λ x. x .left) e, shown _ _ _ _ _ (r .result) e (r .ensures .1 .0)))
 
 pub rolvenko-replay-spec : {M : Type 1} → statement M
 rolvenko-replay-spec =

@@ -1,19 +1,14 @@
 -- `rolvenko::rolvenko_scan` meets its contract: places and steps are at most the image's limit, so they fit. Assumes nothing.
-use mathlib.Core.Path.{_≡_, sym, ap, subst, _∙_}
+use mathlib.Core.Path.{ap, subst, _∙_}
 use native.Mathlib.Omega.{arith}
 use borrow.Author.Needs.{needs}
-use Rattle.semantics.specs.Formula.{State}
-use Rattle.scan.specs.declared.Scanned.{Scanned}
 use Rattle.scan.specs.Services.{AfterScan}
 use Rattle.scan.specs.Results.{afterScan, ScannedWithin}
 use Rattle.limits.specs.Limits.{imageLimit}
 use Rattle.rolvenko.specs.Packed.{packedScan}
 use Rattle.rolvenko.proofs.rolvenko_scan.Statement.{statement}
 use Rattle.rolvenko.proofs.rolvenko_scan.Tie as tie
-
--- the answer r with the state left is the definition's
-answered : {r q : Scanned} {left : State} {d : AfterScan} → r ≡ q → afterScan r left ≡ d → packedScan (afterScan q left) ≡ packedScan d
-answered {left = left} e h = ap (λ (x : Scanned). packedScan (afterScan x left)) (sym e) ∙ ap packedScan h
+use Rattle.rolvenko.proofs.Answered.{answers}
 
 pack-requires : tie.Need-pack-requires
 pack-requires c κs =
@@ -28,12 +23,12 @@ pack-requires-2 c κs =
 returns : tie.Need-returns
 returns c =
     let e = c .before .before .before .before .before .scan .ensures .0 in
-    (c .pack .ensures ∙ answered (c .before .before .steps .given .1) e, ap {A = AfterScan} (λ x. x .state) e)
+    (c .pack .ensures ∙ answers packedScan afterScan (c .before .before .steps .given .1) e, ap {A = AfterScan} (λ x. x .state) e)
 
 returns-2 : tie.Need-returns-2
 returns-2 c =
     let e = c .before .before .before .before .before .scan .ensures .0 in
-    (c .pack2 .ensures ∙ answered (c .before .before .number .given .1) e, ap {A = AfterScan} (λ x. x .state) e)
+    (c .pack2 .ensures ∙ answers packedScan afterScan (c .before .before .number .given .1) e, ap {A = AfterScan} (λ x. x .state) e)
 
 pub rolvenko-scan-spec : {M : Type 1} → statement M
 rolvenko-scan-spec =

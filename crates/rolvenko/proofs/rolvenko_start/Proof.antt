@@ -1,19 +1,14 @@
 -- `rolvenko::rolvenko_start` meets its contract. Assumes nothing.
-use mathlib.Core.Path.{_≡_, sym, ap, subst, _∙_}
+use mathlib.Core.Path.{ap, subst, _∙_}
 use native.Mathlib.Omega.{arith}
 use borrow.Author.Needs.{needs}
-use Rattle.semantics.specs.Formula.{State}
-use Rattle.scan.specs.declared.Started.{Started}
 use Rattle.scan.specs.Services.{AfterStart}
 use Rattle.scan.specs.Results.{afterStart, StartedWithin}
 use Rattle.limits.specs.Limits.{imageLimit}
 use Rattle.rolvenko.specs.Packed.{packedCheck}
 use Rattle.rolvenko.proofs.rolvenko_start.Statement.{statement}
 use Rattle.rolvenko.proofs.rolvenko_start.Tie as tie
-
--- the answer r with the state left is the definition's
-answered : {r q : Started} {left : State} {d : AfterStart} → r ≡ q → afterStart r left ≡ d → packedCheck (afterStart q left .answer) ≡ packedCheck (d .answer)
-answered {left = left} e h = ap (λ (x : Started). packedCheck (afterStart x left .answer)) (sym e) ∙ ap {A = AfterStart} (λ x. packedCheck (x .answer)) h
+use Rattle.rolvenko.proofs.Answered.{answers}
 
 pack-requires : tie.Need-pack-requires
 pack-requires c κs =
@@ -23,12 +18,12 @@ pack-requires c κs =
 returns : tie.Need-returns
 returns c =
     let e = c .before .before .before .start .ensures .0 in
-    (answered (c .enum-told .given .1) e, ap {A = AfterStart} (λ x. x .state) e)
+    (answers (λ (x : AfterStart). packedCheck (x .answer)) afterStart (c .enum-told .given .1) e, ap {A = AfterStart} (λ x. x .state) e)
 
 returns-2 : tie.Need-returns-2
 returns-2 c =
     let e = c .before .before .before .before .before .start .ensures .0 in
-    (c .pack .ensures ∙ answered (c .before .before .number .given .1) e, ap {A = AfterStart} (λ x. x .state) e)
+    (c .pack .ensures ∙ answers (λ (x : AfterStart). packedCheck (x .answer)) afterStart (c .before .before .number .given .1) e, ap {A = AfterStart} (λ x. x .state) e)
 
 pub rolvenko-start-spec : {M : Type 1} → statement M
 rolvenko-start-spec =

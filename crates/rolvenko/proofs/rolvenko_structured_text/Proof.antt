@@ -1,15 +1,13 @@
 -- `rolvenko::rolvenko_structured_text` meets its contract: places are at most the text's limit, lengths `stRoom`, so they fit. Assumes nothing.
-use mathlib.Core.Path.{_≡_, sym, ap, subst, _∙_}
-use mathlib.Core.List.{List}
-use Prim.Native.Nat.{ℕ}
+use mathlib.Core.Path.{ap, subst, _∙_}
 use native.Mathlib.Omega.{arith}
 use borrow.Author.Needs.{needs}
 use Rattle.translate.specs.Services.{AfterTranslation}
-use Rattle.structured_text.specs.declared.Written.{Written}
 use Rattle.structured_text.specs.Results.{afterWriting, WrittenWithin}
 use Rattle.rolvenko.specs.Packed.{packedTranslation}
 use Rattle.rolvenko.proofs.rolvenko_structured_text.Statement.{statement}
 use Rattle.rolvenko.proofs.rolvenko_structured_text.Tie as tie
+use Rattle.rolvenko.proofs.Answered.{answers}
 
 pack-requires : tie.Need-pack-requires
 pack-requires c κs =
@@ -21,19 +19,15 @@ pack-requires-2 c κs =
     let l = subst WrittenWithin (c .before .number .given .1) (c .before .before .before .before .before .structured-text .ensures .1) in
     (omega (arith, l), omega arith)
 
--- the answer r with the buffer left is the definition's
-answered : {r q : Written} {left : List ℕ} {d : AfterTranslation} → r ≡ q → afterWriting r left ≡ d → packedTranslation (afterWriting q left .answer) ≡ packedTranslation (d .answer)
-answered {left = left} e h = ap (λ (x : Written). packedTranslation (afterWriting x left .answer)) (sym e) ∙ ap {A = AfterTranslation} (λ x. packedTranslation (x .answer)) h
-
 returns : tie.Need-returns
 returns c =
     let e = c .before .before .before .before .before .before .structured-text .ensures .0 in
-    (c .pack .ensures ∙ answered (c .before .before .length .given .1) e, ap {A = AfterTranslation} (λ x. x .buffer) e)
+    (c .pack .ensures ∙ answers (λ (x : AfterTranslation). packedTranslation (x .answer)) afterWriting (c .before .before .length .given .1) e, ap {A = AfterTranslation} (λ x. x .buffer) e)
 
 returns-2 : tie.Need-returns-2
 returns-2 c =
     let e = c .before .before .before .before .before .before .structured-text .ensures .0 in
-    (c .pack2 .ensures ∙ answered (c .before .before .number .given .1) e, ap {A = AfterTranslation} (λ x. x .buffer) e)
+    (c .pack2 .ensures ∙ answers (λ (x : AfterTranslation). packedTranslation (x .answer)) afterWriting (c .before .before .number .given .1) e, ap {A = AfterTranslation} (λ x. x .buffer) e)
 
 pub rolvenko-structured-text-spec : {M : Type 1} → statement M
 rolvenko-structured-text-spec =

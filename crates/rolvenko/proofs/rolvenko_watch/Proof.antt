@@ -1,15 +1,13 @@
 -- `rolvenko::rolvenko_watch` meets its contract. Assumes nothing.
-use mathlib.Core.Path.{_≡_, sym, ap, subst, _∙_}
-use mathlib.Core.List.{List}
-use lib.IntN.{ℤ}
+use mathlib.Core.Path.{ap, subst, _∙_}
 use native.Mathlib.Omega.{arith}
 use borrow.Author.Needs.{needs}
-use Rattle.watch.specs.declared.Watched.{Watched}
 use Rattle.watch.specs.Services.{AfterWatch}
 use Rattle.watch.specs.Results.{afterWatch, WatchedWithin}
 use Rattle.rolvenko.specs.Packed.{packedTranslation}
 use Rattle.rolvenko.proofs.rolvenko_watch.Statement.{statement}
 use Rattle.rolvenko.proofs.rolvenko_watch.Tie as tie
+use Rattle.rolvenko.proofs.Answered.{answers}
 
 pack-requires : tie.Need-pack-requires
 pack-requires c κs =
@@ -21,19 +19,15 @@ pack-requires-2 c κs =
     let l = subst WatchedWithin (c .before .number .given .1) (c .before .before .before .before .watch .ensures .1) in
     (omega (arith, l), omega arith)
 
--- the answer r with the report left is the definition's
-answered : {r q : Watched} {left : List ℤ} {d : AfterWatch} → r ≡ q → afterWatch r left ≡ d → packedTranslation (afterWatch q left .answer) ≡ packedTranslation (d .answer)
-answered {left = left} e h = ap (λ (x : Watched). packedTranslation (afterWatch x left .answer)) (sym e) ∙ ap {A = AfterWatch} (λ x. packedTranslation (x .answer)) h
-
 returns : tie.Need-returns
 returns c =
     let e = c .before .before .before .before .before .watch .ensures .0 in
-    (c .pack .ensures ∙ answered (c .before .before .count .given .1) e, ap {A = AfterWatch} (λ x. x .report) e)
+    (c .pack .ensures ∙ answers (λ (x : AfterWatch). packedTranslation (x .answer)) afterWatch (c .before .before .count .given .1) e, ap {A = AfterWatch} (λ x. x .report) e)
 
 returns-2 : tie.Need-returns-2
 returns-2 c =
     let e = c .before .before .before .before .before .watch .ensures .0 in
-    (c .pack2 .ensures ∙ answered (c .before .before .number .given .1) e, ap {A = AfterWatch} (λ x. x .report) e)
+    (c .pack2 .ensures ∙ answers (λ (x : AfterWatch). packedTranslation (x .answer)) afterWatch (c .before .before .number .given .1) e, ap {A = AfterWatch} (λ x. x .report) e)
 
 pub rolvenko-watch-spec : {M : Type 1} → statement M
 rolvenko-watch-spec =

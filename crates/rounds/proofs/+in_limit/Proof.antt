@@ -36,26 +36,8 @@ in-limit-returns-2 t c = limit-many (c .before .before .before .args .most) (c .
 in-limit-returns-3 : (t : ℕ) → in-limit-lts.Need-returns-3 (claims t) (in-limit-at t) in-limit.Post
 in-limit-returns-3 t c = limit-cut (c .before .before .before .before .args .most) (c .before .before .before .before .args .table .now) (c .before .before .if1 .left) (c .if3 .taken)
 
-in-limit-shared-slice-read-share-fits : (t : ℕ) → in-limit-lts.Need-shared-slice-read-share-fits (claims t) (in-limit-at t) in-limit.Post
-in-limit-shared-slice-read-share-fits t c = search needs
-
-in-limit-share-fits-requires : (t : ℕ) → in-limit-lts.Need-share-fits-requires (claims t) (in-limit-at t) in-limit.Post
-in-limit-share-fits-requires t c κs = search needs
-
 in-limit-returns-4 : (t : ℕ) → in-limit-lts.Need-returns-4 (claims t) (in-limit-at t) in-limit.Post
 in-limit-returns-4 t c = limit-out (c .before .before .before .before .before .before .before .args .most) (c .before .before .before .before .before .before .before .args .table .now) (c .before .before .before .before .if2 .left) (c .before .before .before .if3 .left) (sym (not-true _ (c .if4 .taken)) ∙ c .before .share-fits .ensures)
-
-in-limit-sub-in-limit : (t : ℕ) → in-limit-lts.Need-sub-in-limit (claims t) (in-limit-at t) in-limit.Post
-in-limit-sub-in-limit t c = search needs
-
-in-limit-part-in-limit-start : (t : ℕ) → in-limit-lts.Need-part-in-limit-start (claims t) (in-limit-at t) in-limit.Post
-in-limit-part-in-limit-start t c = search needs
-
-in-limit-part-in-limit-end : (t : ℕ) → in-limit-lts.Need-part-in-limit-end (claims t) (in-limit-at t) in-limit.Post
-in-limit-part-in-limit-end t c = search needs
-
-in-limit-in-limit-requires : (t : ℕ) → in-limit-lts.Need-in-limit-requires (claims t) (in-limit-at t) in-limit.Post
-in-limit-in-limit-requires t c κs = search needs
 
 in-limit-returns-5 : (t : ℕ) → in-limit-lts.Need-returns-5 (claims t) (in-limit-at t) in-limit.Post
 in-limit-returns-5 t c = limit-next (c .before .before .before .before .before .before .before .before .before .args .most) (c .before .before .before .before .before .before .before .before .before .args .table .now) (c .before .before .before .before .before .before .if2 .left) (c .before .before .before .before .before .if3 .left) (sym (not-false _ (c .before .before .if4 .left)) ∙ c .before .before .before .share-fits .ensures) (c .in-limit .result) (c .in-limit .ensures)
@@ -65,17 +47,6 @@ pub +in-limit-spec : {M : Type 1} → statement M
     close
     μ-in-limit
     λ t. in-limit-lts.spec
-    (claims t)
-    (in-limit-at t)
-    in-limit.Post
-    (in-limit-returns t)
-    (in-limit-returns-2 t)
-    (in-limit-returns-3 t)
-    (in-limit-shared-slice-read-share-fits t)
-    (in-limit-share-fits-requires t)
-    (in-limit-returns-4 t)
-    (in-limit-sub-in-limit t)
-    (in-limit-part-in-limit-start t)
-    (in-limit-part-in-limit-end t)
-    (in-limit-in-limit-requires t)
+    (claims t) (in-limit-at t) in-limit.Post (in-limit-returns t) (in-limit-returns-2 t) (in-limit-returns-3 t) (λ c. search needs)
+    (λ c κs. search needs) (in-limit-returns-4 t) (λ c. search needs) (λ c. search needs) (λ c. search needs) (λ c κs. search needs)
     (in-limit-returns-5 t)

@@ -23,12 +23,5 @@ returns-3 c = round-in (c .before .before .before .before .before .before .befor
 pub round-spec : {M : Type 1} → statement M
 round-spec =
     tie.close
-    (tie.spec
-    returns
-    (λ c κs. search needs)
-    returns-2
-    visit-all-requires
-    (λ c. search needs)
-    (λ c. search needs)
-    (λ c. search needs)
+    (tie.spec returns (λ c κs. search needs) returns-2 visit-all-requires (λ c. search needs) (λ c. search needs) (λ c. search needs)
     returns-3)

@@ -18,10 +18,7 @@ returns-2 c =
 returns-3 : tie.Need-returns-3
 returns-3 c = (sym (ap stepsIn (c .before .response3 .given .1)), subst (ResponseWithin imageLimit) (c .before .response3 .given .1) (c .before .before .before .pre))
 
-returns-4 : tie.Need-returns-4
-returns-4 c = (sym (ap stepsIn (c .enum-told .given .1)), omega arith)
-
 pub steps-in-spec : {M : Type 1} → statement M
 steps-in-spec =
     tie.close
-    (tie.spec (λ c. search needs) (λ c. search needs) (λ c. search needs) (λ c. search needs) returns returns-2 returns-3 returns-4)
+    (tie.spec (λ c. search needs) (λ c. search needs) (λ c. search needs) (λ c. search needs) returns returns-2 returns-3 (λ c. (sym (ap stepsIn (c .enum-told .given .1)), omega arith)))

@@ -13,18 +13,6 @@ Inv-loop state₀ from i₀ state i = Clearing state₀ state from i
 abbrev μ-loop : tie.MeasureT-loop
 μ-loop state₀ from i₀ state i = length state₀ - i
 
-loop-holds : tie.Need-loop-holds Inv-loop μ-loop
-loop-holds c = clearing-begins _ _ (c .pre)
-
-mul-state : tie.Need-mul-state Inv-loop μ-loop
-mul-state c = search needs
-
-slice-set-of-state : tie.Need-slice-set-of-state Inv-loop μ-loop
-slice-set-of-state c = search needs
-
-add-i : tie.Need-add-i Inv-loop μ-loop
-add-i c = search needs
-
 loop-less : tie.Need-loop-less Inv-loop μ-loop
 loop-less c = omega (arith, c .loop-test .taken, c .before .loop .inv .same-length)
 
@@ -38,4 +26,4 @@ returns : tie.Need-returns Inv-loop μ-loop
 returns c = clearing-ends (c .before .loop .inv) (omega (arith, c .loop-test .left, c .before .loop .inv .same-length))
 
 pub clear-spec : {M : Type 1} → statement M
-clear-spec = tie.close (tie.spec Inv-loop μ-loop loop-holds mul-state slice-set-of-state add-i loop-less loop-again same-length returns)
+clear-spec = tie.close (tie.spec Inv-loop μ-loop (λ c. clearing-begins _ _ (c .pre)) (λ c. search needs) (λ c. search needs) (λ c. search needs) loop-less loop-again same-length returns)

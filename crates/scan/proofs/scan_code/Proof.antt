@@ -2,8 +2,8 @@
 use mathlib.Core.Path.{sym, _∙_}
 use native.Mathlib.Omega.{arith}
 use lib.ListN.{length, drop, length-drop}
-use Rattle.checker.proofs.Checking.{rest-of}
 use Rattle.fused.specs.Inner.Passes.{RunBy}
+use Rattle.leb128.proofs.Stores.{rest-of}
 use Rattle.scan.proofs.Joined.{one-done, one-refused, one-broken, done-steps, refused-steps, broken-place}
 use borrow.Author.Needs.{needs}
 use Rattle.scan.proofs.scan_code.Statement.{statement}

@@ -4,10 +4,10 @@ use native.Mathlib.Omega.{arith}
 use Rattle.limits.specs.Answer.{accepted}
 use Rattle.semantics.specs.Shape.{settingOf}
 use Rattle.bytecode.specs.Parts.{shapeIn}
-use Rattle.checker.proofs.Checking.{rest-of}
 use Rattle.before.specs.Before.{beforeCode}
 use Rattle.before.specs.Inner.Known.{beforeAnswer, PreparedBy}
 use Rattle.before.proofs.Begins.{before-rest}
+use Rattle.leb128.proofs.Stores.{rest-of}
 use Rattle.scan.proofs.Scans.{tests-refuse, tests-pass, known-fits, within-image}
 use borrow.Author.Needs.{needs}
 use Rattle.scan.proofs.scan_known.Statement.{statement}

@@ -13,9 +13,6 @@ Inv-loop limits low₀ high₀ t₀ i₀ low high t i = Placing limits low₀ hi
 abbrev μ-loop : tie.MeasureT-loop
 μ-loop limits low₀ high₀ t₀ i₀ low high t i = length limits - i
 
-loop-holds : tie.Need-loop-holds Inv-loop μ-loop
-loop-holds c = placing-begins _ _ _
-
 place-time-requires : tie.Need-place-time-requires Inv-loop μ-loop
 place-time-requires c κs =
     let few = placing-small (c .before .before .before .before .loop .inv) (c .before .before .before .before .before .before .pre .0) in
@@ -36,4 +33,4 @@ returns c = placing-ends (c .before .loop .inv) (c .loop-test .left)
 pub place-times-spec : {M : Type 1} → statement M
 place-times-spec =
     tie.close
-    (tie.spec Inv-loop μ-loop loop-holds (λ c. search needs) (λ c. search needs) place-time-requires (λ c. search needs) (λ c. search needs) loop-again same-length same-length-2 returns)
+    (tie.spec Inv-loop μ-loop (λ c. placing-begins _ _ _) (λ c. search needs) (λ c. search needs) place-time-requires (λ c. search needs) (λ c. search needs) loop-again same-length same-length-2 returns)

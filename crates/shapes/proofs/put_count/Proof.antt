@@ -10,8 +10,5 @@ use Rattle.shapes.proofs.put_count.Tie as tie
 returns : tie.Need-returns
 returns c = rw (toZ-pos w32 (c .before .pre))
 
-returns-2 : tie.Need-returns-2
-returns-2 c = sym (set-out _ _ _ (c .if1 .left))
-
 pub put-count-spec : {M : Type 1} → statement M
-put-count-spec = tie.close (tie.spec (λ c. search needs) (λ c. search needs) (λ c. search needs) (λ c. search needs) returns returns-2)
+put-count-spec = tie.close (tie.spec (λ c. search needs) (λ c. search needs) (λ c. search needs) (λ c. search needs) returns (λ c. sym (set-out _ _ _ (c .if1 .left))))

@@ -8,7 +8,7 @@ use lib.Seq.{length-take-le}
 use borrow.Author.Needs.{needs}
 use Rattle.bytecode.specs.Parts.{limitsFrom}
 use Rattle.bytecode.proofs.SoundHeader.{headed-stands, headed-broken, header-not-broken}
-use Rattle.checker.proofs.Checking.{rest-of}
+use Rattle.leb128.proofs.Stores.{rest-of}
 use Rattle.shapes.proofs.Measuring.{table-long, table-zeros, same-times, limits-are, limits-fit, timed-measures}
 use Rattle.shapes.proofs.shape_times.Statement.{statement}
 use Rattle.shapes.proofs.shape_times.Tie as tie
@@ -49,21 +49,6 @@ returns-2 c =
 pub shape-times-spec : {M : Type 1} → statement M
 shape-times-spec =
     tie.close
-    (tie.spec
-    (λ c. search needs)
-    (λ c κs. search needs)
-    (λ c. search needs)
-    (λ c. search needs)
-    sub-measure-times
-    part-measure-times-start
-    (λ c. search needs)
-    slice-relend-prefix-measure-times
-    slice-aggregate-measure-times
-    measure-times-requires
-    (λ c. search needs)
-    (λ c. search needs)
-    returns
-    (λ c. search needs)
-    (λ c. search needs)
-    (λ c. search needs)
-    returns-2)
+    (tie.spec (λ c. search needs) (λ c κs. search needs) (λ c. search needs) (λ c. search needs) sub-measure-times part-measure-times-start
+    (λ c. search needs) slice-relend-prefix-measure-times slice-aggregate-measure-times measure-times-requires (λ c. search needs)
+    (λ c. search needs) returns (λ c. search needs) (λ c. search needs) (λ c. search needs) returns-2)

@@ -5,7 +5,7 @@ use Prim.Native.Nat.{ℕ}
 use native.Mathlib.Omega.{arith}
 use borrow.Author.Needs.{needs}
 use Rattle.st_writer.proofs.Laws.{fronts-then, as-front}
-use Rattle.st_sections.proofs.Signed.{read, printed, mirrored, fits, read-2, printed-2}
+use Rattle.trace_text.proofs.SignedDecimals.{read, printed, mirrored, fits, read-2, printed-2}
 use Rattle.st_sections.proofs.signed_before.Statement.{statement}
 use Rattle.st_sections.proofs.signed_before.Tie as tie
 

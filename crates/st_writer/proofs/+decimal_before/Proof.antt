@@ -35,32 +35,11 @@ decimal-before-below t =
 abbrev claims : ℕ → decimal-before-lts.Claims
 claims t = (byte-before-reads.Asked, byte-before-reads.Learnt, decimal-before-below t, decimal-before.Post)
 
-decimal-before-add-byte-before : (t : ℕ) → decimal-before-lts.Need-add-byte-before (claims t) (decimal-before-at t) decimal-before.Post
-decimal-before-add-byte-before t c = omega arith
-
-decimal-before-cast-byte-before : (t : ℕ) → decimal-before-lts.Need-cast-byte-before (claims t) (decimal-before-at t) decimal-before.Post
-decimal-before-cast-byte-before t c = omega arith
-
-decimal-before-byte-before-requires : (t : ℕ) → decimal-before-lts.Need-byte-before-requires (claims t) (decimal-before-at t) decimal-before.Post
-decimal-before-byte-before-requires t c κs = tt
-
 decimal-before-same-length : (t : ℕ) → decimal-before-lts.Need-same-length (claims t) (decimal-before-at t) decimal-before.Post
 decimal-before-same-length t c = c .before .before .byte-before .ensures .same
 
 decimal-before-returns : (t : ℕ) → decimal-before-lts.Need-returns (claims t) (decimal-before-at t) decimal-before.Post
 decimal-before-returns t c = as-front (λ l. ap (λ (k : List ℕ). k ++ l) (decimal-small _ (c .before .before .before .before .if1 .taken))) (c .before .before .byte-before .ensures)
-
-decimal-before-add-byte-before-2 : (t : ℕ) → decimal-before-lts.Need-add-byte-before-2 (claims t) (decimal-before-at t) decimal-before.Post
-decimal-before-add-byte-before-2 t c = omega arith
-
-decimal-before-cast-byte-before-2 : (t : ℕ) → decimal-before-lts.Need-cast-byte-before-2 (claims t) (decimal-before-at t) decimal-before.Post
-decimal-before-cast-byte-before-2 t c = omega arith
-
-decimal-before-byte-before-requires-2 : (t : ℕ) → decimal-before-lts.Need-byte-before-requires-2 (claims t) (decimal-before-at t) decimal-before.Post
-decimal-before-byte-before-requires-2 t c κs = tt
-
-decimal-before-decimal-before-requires : (t : ℕ) → decimal-before-lts.Need-decimal-before-requires (claims t) (decimal-before-at t) decimal-before.Post
-decimal-before-decimal-before-requires t c κs = omega arith
 
 decimal-before-same-length-2 : (t : ℕ) → decimal-before-lts.Need-same-length-2 (claims t) (decimal-before-at t) decimal-before.Post
 decimal-before-same-length-2 t c = c .before .before .decimal-before .ensures .same ∙ c .before .before .before .before .before .before .byte-before2 .ensures .same
@@ -70,16 +49,6 @@ decimal-before-returns-2 t c = decimal-front _ _ _ _ _ _ _ (c .before .before .b
 
 pub +decimal-before-spec : {M : Type 1} → statement M
 +decimal-before-spec = close μ-decimal-before λ t. decimal-before-lts.spec (claims t)
-    (decimal-before-at t)
-    decimal-before.Post
-    (decimal-before-add-byte-before t)
-    (decimal-before-cast-byte-before t)
-    (decimal-before-byte-before-requires t)
-    (decimal-before-same-length t)
-    (decimal-before-returns t)
-    (decimal-before-add-byte-before-2 t)
-    (decimal-before-cast-byte-before-2 t)
-    (decimal-before-byte-before-requires-2 t)
-    (decimal-before-decimal-before-requires t)
-    (decimal-before-same-length-2 t)
+    (decimal-before-at t) decimal-before.Post (λ c. omega arith) (λ c. omega arith) (λ c κs. tt) (decimal-before-same-length t)
+    (decimal-before-returns t) (λ c. omega arith) (λ c. omega arith) (λ c κs. tt) (λ c κs. omega arith) (decimal-before-same-length-2 t)
     (decimal-before-returns-2 t)

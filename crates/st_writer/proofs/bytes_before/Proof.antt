@@ -17,17 +17,8 @@ abbrev μ-loop : tie.MeasureT-loop
 loop-holds : tie.Need-loop-holds Inv-loop μ-loop
 loop-holds c = (omega arith, word-none _ (c .before .before .args .word .now) _)
 
-sub-i : tie.Need-sub-i Inv-loop μ-loop
-sub-i c = search needs
-
 shared-slice-read-byte-before : tie.Need-shared-slice-read-byte-before Inv-loop μ-loop
 shared-slice-read-byte-before c = omega (arith, c .before .before .before .loop .inv .0, c .before .before .loop-test .taken)
-
-byte-before-requires : tie.Need-byte-before-requires Inv-loop μ-loop
-byte-before-requires c κs = tt
-
-loop-less : tie.Need-loop-less Inv-loop μ-loop
-loop-less c = search needs
 
 loop-again : tie.Need-loop-again Inv-loop μ-loop
 loop-again c = let l = c .before .before .before .before .before .before .loop .inv in (omega (arith, l .0), word-more _ _ _ _ _ _ _ _ (c .before .before .before .before .before .loop-test .taken) (l .0) (l .1) (c .before .before .byte-before .ensures))
@@ -41,14 +32,5 @@ returns c = word-all _ _ _ _ _ _ (c .loop-test .left) (c .before .loop .inv .1)
 pub bytes-before-spec : {M : Type 1} → statement M
 bytes-before-spec =
     tie.close
-    (tie.spec
-    Inv-loop
-    μ-loop
-    loop-holds
-    sub-i
-    shared-slice-read-byte-before
-    byte-before-requires
-    loop-less
-    loop-again
-    same-length
-    returns)
+    (tie.spec Inv-loop μ-loop loop-holds (λ c. search needs) shared-slice-read-byte-before (λ c κs. tt) (λ c. search needs) loop-again
+    same-length returns)

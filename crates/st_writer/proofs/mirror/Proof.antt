@@ -16,9 +16,6 @@ Inv-loop code out₀ at₀ to₀ out at to = (length out ≡ length out₀) × C
 abbrev μ-loop : tie.MeasureT-loop
 μ-loop code out₀ at₀ to₀ out at to = length code - at
 
-loop-holds : tie.Need-loop-holds Inv-loop μ-loop
-loop-holds c = (refl, copy-starts _ _)
-
 sub-bytes-before : tie.Need-sub-bytes-before Inv-loop μ-loop
 sub-bytes-before c = let b = subst (FetchedWithin (length (c .before .before .before .before .before .before .before .before .before .args .code .now)) (c .before .before .before .before .before .before .loop .at)) (c .before .before .next .given .1) (c .before .before .before .before .fetch .ensures .1) in omega (arith, b .behind)
 
@@ -55,5 +52,5 @@ returns-3 c = λ p t z e. copy-ends _ _ _ _ _ (c .loop-test .left) (c .before .b
 pub mirror-spec : {M : Type 1} → statement M
 mirror-spec =
     tie.close
-    (tie.spec Inv-loop μ-loop loop-holds (λ c κs. search needs) (λ c. search needs) sub-bytes-before part-bytes-before-start part-bytes-before-end (λ c κs. search needs) loop-less loop-again
+    (tie.spec Inv-loop μ-loop (λ c. (refl, copy-starts _ _)) (λ c κs. search needs) (λ c. search needs) sub-bytes-before part-bytes-before-start part-bytes-before-end (λ c κs. search needs) loop-less loop-again
     (λ c. search needs) same-length returns (λ c. search needs) same-length-2 returns-2 same-length-3 returns-3)

@@ -12,18 +12,6 @@ Inv-loop out₀ to n left₀ place₀ out left place = (left ≤ n) × Fronts (o
 abbrev μ-loop : tie.MeasureT-loop
 μ-loop out₀ to n left₀ place₀ out left place = left
 
-loop-holds : tie.Need-loop-holds Inv-loop μ-loop
-loop-holds c = (omega arith, opens-none _ _ _)
-
-byte-before-requires : tie.Need-byte-before-requires Inv-loop μ-loop
-byte-before-requires c κs = search needs
-
-sub-left : tie.Need-sub-left Inv-loop μ-loop
-sub-left c = search needs
-
-loop-less : tie.Need-loop-less Inv-loop μ-loop
-loop-less c = search needs
-
 loop-again : tie.Need-loop-again Inv-loop μ-loop
 loop-again c = let l = c .before .before .before .before .before .loop .inv in (omega arith, opens-more _ _ _ _ _ _ _ _ (search needs) (l .0) (l .1) (c .before .before .byte-before .ensures))
 
@@ -36,13 +24,5 @@ returns c = opens-all _ _ _ _ _ _ (search needs) (c .before .loop .inv .1)
 pub opens-before-spec : {M : Type 1} → statement M
 opens-before-spec =
     tie.close
-    (tie.spec
-    Inv-loop
-    μ-loop
-    loop-holds
-    byte-before-requires
-    sub-left
-    loop-less
-    loop-again
-    same-length
-    returns)
+    (tie.spec Inv-loop μ-loop (λ c. (omega arith, opens-none _ _ _)) (λ c κs. search needs) (λ c. search needs) (λ c. search needs)
+    loop-again same-length returns)

@@ -4,8 +4,5 @@ use Rattle.structured_text.proofs.Service.{long-refused}
 use Rattle.structured_text.proofs.structured_text.Statement.{statement}
 use Rattle.structured_text.proofs.structured_text.Tie as tie
 
-returns-4 : tie.Need-returns-4
-returns-4 c = long-refused _ _ (c .if3 .left)
-
 pub structured-text-spec : {M : Type 1} → statement M
-structured-text-spec = tie.close (tie.spec (λ c κs. search needs) (λ c. search needs) (λ c. search needs) (λ c κs. search needs) (λ c. search needs) (λ c. search needs) (λ c κs. search needs) (λ c. search needs) (λ c. search needs) returns-4)
+structured-text-spec = tie.close (tie.spec (λ c κs. search needs) (λ c. search needs) (λ c. search needs) (λ c κs. search needs) (λ c. search needs) (λ c. search needs) (λ c κs. search needs) (λ c. search needs) (λ c. search needs) (λ c. long-refused _ _ (c .if3 .left)))

@@ -5,7 +5,8 @@ use lib.ListN.{length-drop}
 use borrow.Author.Tests.{not-true, not-false}
 use borrow.Author.Needs.{needs}
 use Rattle.bytecode.proofs.SoundHeader.{headed-stands, headed-broken}
-use Rattle.structured_text.proofs.Service.{name-refused, header-unbroken, count-held, none-outside, code-rest, prepared}
+use Rattle.leb128.proofs.Stores.{rest-of}
+use Rattle.structured_text.proofs.Service.{name-refused, header-unbroken, count-held, none-outside, prepared}
 use Rattle.structured_text.proofs.write_image.Statement.{statement}
 use Rattle.structured_text.proofs.write_image.Tie as tie
 
@@ -14,9 +15,8 @@ returns c = header-unbroken (c .before .before .before .before .before .before .
 
 has-st-requires : tie.Need-has-st-requires
 has-st-requires c κs =
-    let k = c .before .before .before .before .before .before .before .before .before .before .before .before .before .before .before .before .pre .0 in
     let h = headed-stands (c .before .before .before .before .before .before .header .ensures) (c .before .headed .given .1) in
-    count-held k h
+    count-held (c .before .before .before .before .before .before .before .before .before .before .before .before .before .before .before .before .pre .0) h
 
 returns-2 : tie.Need-returns-2
 returns-2 c =
@@ -42,7 +42,7 @@ write-code-requires c κs =
     let h = headed-stands (c .before .before .before .before .before .before .before .before .before .before .before .before .header .ensures) (c .before .before .before .before .before .before .before .headed .given .1) in
     let image = c .before .before .before .before .before .before .before .before .before .before .before .before .before .before .before .before .before .before .before .before .before .before .args .image .now in
     let place = c .before .before .before .before .before .before .before .headed .given .0 .1 .1 .0 in
-    rw (code-rest image place)
+    rw (rest-of image place)
     (prepared k h (none-outside k h (c .before .before .before .before .before .has-st .ensures) ∙ not-false _ (c .before .before .before .before .if1 .left)) (c .before .before .before .before .before .before .before .before .before .before .before .before .before .before .before .before .before .before .before .before .before .before .pre .1 .0), omega (arith, length-drop place image, c .before .before .before .before .before .before .before .before .before .before .before .before .before .before .before .before .before .before .before .before .before .before .pre .1 .1))
 
 pub write-image-spec : {M : Type 1} → statement M

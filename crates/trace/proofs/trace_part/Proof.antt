@@ -26,20 +26,11 @@ sub-feed c = c .before .before .before .before .before .loop .inv .0
 part-feed-start : tie.Need-part-feed-start Inv-loop μ-loop
 part-feed-start c = omega (arith, c .before .before .before .before .before .loop .inv .0)
 
-part-feed-end : tie.Need-part-feed-end Inv-loop μ-loop
-part-feed-end c = omega arith
-
-feed-requires : tie.Need-feed-requires Inv-loop μ-loop
-feed-requires c κs = tt
-
 add-at : tie.Need-add-at Inv-loop μ-loop
 add-at c = omega (arith, taken-inside (c .before .before .before .before .before .before .before .before .before .before .before .args .part .now) (c .before .before .before .before .before .before .before .before .before .loop .at) (c .before .before .before .before .before .before .before .before .before .loop .inv .0) (c .before .feed .ensures .within))
 
 flush-requires : tie.Need-flush-requires Inv-loop μ-loop
 flush-requires c κs = c .before .before .before .feed .ensures .inside
-
-returns : tie.Need-returns Inv-loop μ-loop
-returns c = λ e. absurd (true≢false (sym e))
 
 loop-less : tie.Need-loop-less Inv-loop μ-loop
 loop-less c = taken-less (c .before .before .before .before .before .before .before .before .before .before .before .before .before .before .before .args .part .now) (c .before .before .before .before .before .before .before .before .before .before .before .before .before .loop .at) (c .before .before .before .before .before .before .before .before .before .before .before .before .loop-test .taken) (c .before .before .before .before .before .feed .ensures .some)
@@ -51,4 +42,4 @@ returns-2 : tie.Need-returns-2 Inv-loop μ-loop
 returns-2 c = λ e. fed-all (c .before .before .before .args .part .now) (c .before .loop .at) _ (c .loop-test .left) (c .before .loop .inv .1)
 
 pub trace-part-spec : {M : Type 1} → statement M
-trace-part-spec = tie.close (tie.spec Inv-loop μ-loop loop-holds sub-feed part-feed-start part-feed-end feed-requires add-at flush-requires returns loop-less loop-again returns-2)
+trace-part-spec = tie.close (tie.spec Inv-loop μ-loop loop-holds sub-feed part-feed-start (λ c. omega arith) (λ c κs. tt) add-at flush-requires (λ c. λ e. absurd (true≢false (sym e))) loop-less loop-again returns-2)

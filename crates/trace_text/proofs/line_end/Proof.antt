@@ -29,9 +29,8 @@ unfolding countOf cellsOf
 returns-3 c =
     let at-end-number = c .before .before .before .before .before in
     let at-s = at-end-number .before .before .before in
-    let start = at-s .before .before in
     let e = sym (at-end-number .end-number .ensures .0) ∙ c .before .before .before .if1 .left in
-    let same = at-end-number .end-number .ensures .1 ∙ not-counted (at-s .s .given .0 .0) (at-s .s .given .0 .1 .0) (at-s .s .given .0 .1 .1 .0) (start .args .cells .now) e in
+    let same = at-end-number .end-number .ensures .1 ∙ not-counted (at-s .s .given .0 .0) (at-s .s .given .0 .1 .0) (at-s .s .given .0 .1 .1 .0) (at-s .before .before .args .cells .now) e in
     rw (at-s .s .given .1, e) (c .before .put-long-row .ensures .0, c .before .put-long-row .ensures .1 ∙ ap (λ (l : List ℤ). sets l 0 longRow) same)
 
 returns-4 : tie.Need-returns-4

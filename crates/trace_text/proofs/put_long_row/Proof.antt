@@ -22,12 +22,6 @@ loop-holds : tie.Need-loop-holds Inv-loop μ-loop
 unfolding longRow
 loop-holds c = (omega arith, refl)
 
-store-requires : tie.Need-store-requires Inv-loop μ-loop
-store-requires c κs = tt
-
-loop-less : tie.Need-loop-less Inv-loop μ-loop
-loop-less c = omega arith
-
 loop-again : tie.Need-loop-again Inv-loop μ-loop
 loop-again c =
     let at-loop = c .before .before .before .before in
@@ -38,13 +32,7 @@ loop-again c =
 stored : (c : tie.After-loop Inv-loop μ-loop) → c .before .loop .cells ≡ sets (c .before .before .args .cells .now) 0 longRow
 stored c = let e : 65 - c .before .loop .i ≡ 0 = omega arith in rw e at (c .before .loop .inv .1)
 
-same-length : tie.Need-same-length Inv-loop μ-loop
-same-length c = ap length (stored c) ∙ simp length-sets
-
-returns : tie.Need-returns Inv-loop μ-loop
-returns c = (omega arith, stored c)
-
 pub put-long-row-spec : {M : Type 1} → statement M
 put-long-row-spec =
     tie.close
-    (tie.spec Inv-loop μ-loop loop-holds store-requires (λ c. search needs) loop-less loop-again same-length returns)
+    (tie.spec Inv-loop μ-loop loop-holds (λ c κs. tt) (λ c. search needs) (λ c. omega arith) loop-again (λ c. ap length (stored c) ∙ simp length-sets) (λ c. (omega arith, stored c)))

@@ -27,8 +27,7 @@ unfolding textAfter
 returns-5 c =
     let at-put-byte3 = c .before .before .before .before .before .before in
     let at-if2 = at-put-byte3 .before .before in
-    let at-enum-told3 = at-if2 .before in
-    rw (at-enum-told3 .enum-told3 .given .1, ne-eqb _ 10 (at-if2 .if2 .left)) (put-then (at-put-byte3 .put-byte3 .ensures) (c .before .before .put-byte4 .ensures))
+    rw (at-if2 .before .enum-told3 .given .1, ne-eqb _ 10 (at-if2 .if2 .left)) (put-then (at-put-byte3 .put-byte3 .ensures) (c .before .before .put-byte4 .ensures))
 
 returns-6 : tie.Need-returns-6
 unfolding textAfter

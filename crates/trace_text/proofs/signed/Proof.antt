@@ -59,6 +59,4 @@ returns-3 : tie.Need-returns-3
 returns-3 c = rw (toZ-pos w32 (plain (c .before .before .args .v) (rw (c .if2 .left) at (c .before .before .pre))), c .if2 .left)
 
 pub signed-spec : {M : Type 1} → statement M
-signed-spec =
-    tie.close
-    (tie.spec returns (λ c. search needs) cast-before sub-result returns-2 cast-result returns-3)
+signed-spec = tie.close (tie.spec returns (λ c. search needs) cast-before sub-result returns-2 cast-result returns-3)

@@ -15,16 +15,9 @@ Inv-loop text₀ chunk from stage₀ place₀ i₀ text stage place i = Dividing
 abbrev μ-loop : tie.MeasureT-loop
 μ-loop text₀ chunk from stage₀ place₀ i₀ text stage place i = length chunk - i
 
-clip-requires : tie.Need-clip-requires Inv-loop μ-loop
-clip-requires c κs = tt
-
 loop-holds : tie.Need-loop-holds Inv-loop μ-loop
 loop-holds c =
-    let e = c .clip .ensures in
     record { stages = refl; put = putting _ _ _ (omega arith); place = refl }
-
-is-rows-requires : tie.Need-is-rows-requires Inv-loop μ-loop
-is-rows-requires c κs = tt
 
 same-length : tie.Need-same-length Inv-loop μ-loop
 same-length c = c .before .before .before .loop .inv .put .same
@@ -34,22 +27,12 @@ returns c =
     let w = divide-rows (c .before .before .before .loop .inv) (sym (c .before .is-rows .ensures) ∙ c .if1 .taken) in
     (w .0, (put-clip (rw (c .before .before .before .before .clip .ensures) at (w .1 .0)), w .1 .1))
 
-put-text-requires : tie.Need-put-text-requires Inv-loop μ-loop
-put-text-requires c κs = tt
-
-stage-after-requires : tie.Need-stage-after-requires Inv-loop μ-loop
-stage-after-requires c κs = tt
-
-loop-less : tie.Need-loop-less Inv-loop μ-loop
-loop-less c = omega arith
-
 loop-again : tie.Need-loop-again Inv-loop μ-loop
 loop-again c =
     let at-if1 = c .before .before .before .before .before .before in
     let at-is-rows = at-if1 .before in
     let at-loop-test = at-is-rows .before in
-    let at-loop = at-loop-test .before in
-    divide-byte (at-loop .loop .inv) (at-loop-test .loop-test .taken) (sym (at-is-rows .is-rows .ensures) ∙ at-if1 .if1 .left) (c .stage-after .ensures) (c .before .before .before .put-text .ensures)
+    divide-byte (at-loop-test .before .loop .inv) (at-loop-test .loop-test .taken) (sym (at-is-rows .is-rows .ensures) ∙ at-if1 .if1 .left) (c .stage-after .ensures) (c .before .before .before .put-text .ensures)
 
 same-length-2 : tie.Need-same-length-2 Inv-loop μ-loop
 same-length-2 c = c .before .loop .inv .put .same
@@ -62,5 +45,5 @@ returns-2 c =
 pub split-chunk-spec : {M : Type 1} → statement M
 split-chunk-spec =
     tie.close
-    (tie.spec Inv-loop μ-loop clip-requires loop-holds is-rows-requires same-length returns (λ c. search needs) put-text-requires
-    stage-after-requires (λ c. search needs) loop-less loop-again same-length-2 returns-2)
+    (tie.spec Inv-loop μ-loop (λ c κs. tt) loop-holds (λ c κs. tt) same-length returns (λ c. search needs) (λ c κs. tt)
+    (λ c κs. tt) (λ c. search needs) (λ c. omega arith) loop-again same-length-2 returns-2)

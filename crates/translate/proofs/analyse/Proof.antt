@@ -4,9 +4,6 @@ use Rattle.translate.proofs.Service.{analyses-long, analyses-refused, a
 use Rattle.translate.proofs.analyse.Statement.{statement}
 use Rattle.translate.proofs.analyse.Tie as tie
 
-returns : tie.Need-returns
-returns c = analyses-long _ _ _ (c .if1 .taken)
-
 add-names : tie.Need-add-names
 add-names c = let a = c .before .count-of .ensures .1 in let b = c .count-of2 .ensures .1 in search needs
 
@@ -19,4 +16,4 @@ returns-3 c = analyses-refused _ _ _ _ (c .before .before .before .before .befor
 pub analyse-spec : {M : Type 1} → statement M
 analyse-spec =
     tie.close
-    (tie.spec returns (λ c. search needs) (λ c κs. search needs) (λ c. search needs) (λ c κs. search needs) (λ c. search needs) (λ c κs. search needs) add-names (λ c. search needs) (λ c. search needs) (λ c. search needs) (λ c. search needs) returns-2 (λ c. search needs) (λ c. search needs) returns-3)
+    (tie.spec (λ c. analyses-long _ _ _ (c .if1 .taken)) (λ c. search needs) (λ c κs. search needs) (λ c. search needs) (λ c κs. search needs) (λ c. search needs) (λ c κs. search needs) add-names (λ c. search needs) (λ c. search needs) (λ c. search needs) (λ c. search needs) returns-2 (λ c. search needs) (λ c. search needs) returns-3)

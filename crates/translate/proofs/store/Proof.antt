@@ -14,9 +14,6 @@ Inv-loop to₀ from i₀ to i = Storing 0 to₀ from to i
 abbrev μ-loop : tie.MeasureT-loop
 μ-loop to₀ from i₀ to i = length from - i
 
-loop-holds : tie.Need-loop-holds Inv-loop μ-loop
-loop-holds c = record { among = omega arith; same-length = refl; so = refl }
-
 loop-again : tie.Need-loop-again Inv-loop μ-loop
 loop-again c = storing-goes (c .before .before .loop .inv) (c .before .loop-test .taken) (c .before .before .before .pre)
 
@@ -29,5 +26,5 @@ returns c = storing-ends (c .before .loop .inv) (c .loop-test .left)
 pub store-spec : {M : Type 1} → statement M
 store-spec =
     tie.close
-    (tie.spec Inv-loop μ-loop loop-holds (λ c. search needs) (λ c. search needs) (λ c. search needs) (λ c. search needs) loop-again
+    (tie.spec Inv-loop μ-loop (λ c. record { among = omega arith; same-length = refl; so = refl }) (λ c. search needs) (λ c. search needs) (λ c. search needs) (λ c. search needs) loop-again
     same-length returns)

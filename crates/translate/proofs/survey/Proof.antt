@@ -5,9 +5,6 @@ use Rattle.translate.proofs.Service.{surveys-long, surveys-refused, sur
 use Rattle.translate.proofs.survey.Statement.{statement}
 use Rattle.translate.proofs.survey.Tie as tie
 
-returns : tie.Need-returns
-returns c = surveys-long _ _ _ (c .if1 .taken)
-
 add-names : tie.Need-add-names
 add-names c = let a = c .before .count-of .ensures .1 in let b = c .count-of2 .ensures .1 in search needs
 
@@ -20,4 +17,4 @@ returns-3 c = surveys-refused _ _ _ _ (c .before .before .before .before .before
 pub survey-spec : {M : Type 1} → statement M
 survey-spec =
     tie.close
-    (tie.spec returns (λ c. search needs) (λ c κs. search needs) (λ c. search needs) (λ c κs. search needs) (λ c. search needs) (λ c κs. search needs) add-names (λ c. search needs) (λ c. search needs) (λ c. search needs) (λ c. search needs) returns-2 (λ c. search needs) (λ c. search needs) returns-3)
+    (tie.spec (λ c. surveys-long _ _ _ (c .if1 .taken)) (λ c. search needs) (λ c κs. search needs) (λ c. search needs) (λ c κs. search needs) (λ c. search needs) (λ c κs. search needs) add-names (λ c. search needs) (λ c. search needs) (λ c. search needs) (λ c. search needs) returns-2 (λ c. search needs) (λ c. search needs) returns-3)

@@ -4,11 +4,8 @@ use borrow.Author.Needs.{needs}
 use Rattle.translate.proofs.translate.Statement.{statement}
 use Rattle.translate.proofs.translate.Tie as tie
 
-returns-4 : tie.Need-returns-4
-returns-4 c = long-refused _ _ (c .if3 .left)
-
 pub translate-spec : {M : Type 1} → statement M
 translate-spec =
     tie.close
     (tie.spec (λ c κs. search needs) (λ c. search needs) (λ c. search needs) (λ c κs. search needs) (λ c. search needs) (λ c. search needs)
-    (λ c κs. search needs) (λ c. search needs) (λ c. search needs) returns-4)
+    (λ c κs. search needs) (λ c. search needs) (λ c. search needs) (λ c. long-refused _ _ (c .if3 .left)))

@@ -23,5 +23,4 @@ returns-2 : tie.Need-returns-2
 returns-2 c = ap (λ (f : Failed). reported (failedAt f)) (sym (c .enum-told .given .1))
 
 pub reported-spec : {M : Type 1} → statement M
-reported-spec = tie.close
-    (tie.spec (λ c. search needs) number-requires (λ c. search needs) returns returns-2)
+reported-spec = tie.close (tie.spec (λ c. search needs) number-requires (λ c. search needs) returns returns-2)

@@ -22,12 +22,6 @@ loop-holds c =
 add-count : tie.Need-add-count Inv-loop μ-loop
 add-count c = record { fits = omega (arith, c .before .loop .inv .1, c .loop-test .taken, c .before .before .fits .n .fits) }
 
-add-i : tie.Need-add-i Inv-loop μ-loop
-add-i c = search needs
-
-loop-less : tie.Need-loop-less Inv-loop μ-loop
-loop-less c = omega (arith, c .loop-test .taken)
-
 loop-again : tie.Need-loop-again Inv-loop μ-loop
 loop-again c =
     let n = c .before .before .args .n in
@@ -44,4 +38,4 @@ returns c =
     (omega (arith, i .2), omega (arith, i .0, i .1))
 
 pub count-below-spec : {M : Type 1} → statement M
-count-below-spec = tie.close (tie.spec Inv-loop μ-loop loop-holds add-count add-i loop-less loop-again returns)
+count-below-spec = tie.close (tie.spec Inv-loop μ-loop loop-holds add-count (λ c. search needs) (λ c. omega (arith, c .loop-test .taken)) loop-again returns)

@@ -4,8 +4,5 @@ use Rattle.arith.proofs.Flags.{shifted}
 use Rattle.arith.proofs.bits.with_bit.Statement.{statement}
 use Rattle.arith.proofs.bits.with_bit.Tie as tie
 
-returns : tie.Need-returns
-returns c = rw (shifted _ (c .pre))
-
 pub with-bit-spec : {M : Type 1} → statement M
-with-bit-spec = tie.close (tie.spec (λ c. search needs) returns)
+with-bit-spec = tie.close (tie.spec (λ c. search needs) (λ c. rw (shifted _ (c .pre))))

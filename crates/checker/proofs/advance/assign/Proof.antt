@@ -19,8 +19,7 @@ returns-3 c = (rw (assign-is, c .before .before .before .before .if1 .left, sym 
 returns-4 : tie.Need-returns-4
 returns-4 c =
     let at-holds-only = c .before .before .before .before .before in
-    let at-if1 = at-holds-only .before in
-    (rw (assign-is, at-if1 .if1 .left, sym (at-holds-only .holds-only .ensures) ∙ not-false _ (c .before .before .before .before .if2 .left), sym (c .before .before .before .is-unset .ensures) ∙ not-false _ (c .before .before .if3 .left), closed-not _ (c .if4 .taken)), tt)
+    (rw (assign-is, at-holds-only .before .if1 .left, sym (at-holds-only .holds-only .ensures) ∙ not-false _ (c .before .before .before .before .if2 .left), sym (c .before .before .before .is-unset .ensures) ∙ not-false _ (c .before .before .if3 .left), closed-not _ (c .if4 .taken)), tt)
 
 ruled-requires : tie.Need-ruled-requires
 ruled-requires c κs = (c .before .before .before .before .before .before .before .before .pre, sym (c .before .before .before .is-unset .ensures) ∙ not-false _ (c .before .before .if3 .left))
@@ -29,8 +28,7 @@ returns-5 : tie.Need-returns-5
 returns-5 c =
     let at-if2 = c .before .before .before .before .before in
     let at-holds-only = at-if2 .before in
-    let at-if1 = at-holds-only .before in
-    (rw (assign-is, at-if1 .if1 .left, sym (at-holds-only .holds-only .ensures) ∙ not-false _ (at-if2 .if2 .left), sym (c .before .before .before .before .is-unset .ensures) ∙ not-false _ (c .before .before .before .if3 .left), c .before .if4 .left) (ap some (c .ruled .ensures .0)), c .ruled .ensures .1)
+    (rw (assign-is, at-holds-only .before .if1 .left, sym (at-holds-only .holds-only .ensures) ∙ not-false _ (at-if2 .if2 .left), sym (c .before .before .before .before .is-unset .ensures) ∙ not-false _ (c .before .before .before .if3 .left), c .before .if4 .left) (ap some (c .ruled .ensures .0)), c .ruled .ensures .1)
 
 pub assign-spec : {M : Type 1} → statement M
 assign-spec =

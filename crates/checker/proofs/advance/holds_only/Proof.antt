@@ -14,8 +14,7 @@ returns-2 : tie.Need-returns-2
 returns-2 c =
     let start = c .before .before .before in
     let a = start .args in
-    let p = start .pre in
-    rw (c .before .if1 .left) (sym (only-one (a .w .sorts) (a .sort) p))
+    rw (c .before .if1 .left) (sym (only-one (a .w .sorts) (a .sort) (start .pre)))
 
 pub holds-only-spec : {M : Type 1} → statement M
 holds-only-spec = tie.close (tie.spec returns returns-2)

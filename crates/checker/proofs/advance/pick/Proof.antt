@@ -8,9 +8,6 @@ use native.Mathlib.Omega.{arith}
 use Rattle.checker.proofs.advance.pick.Statement.{statement}
 use Rattle.checker.proofs.advance.pick.Tie as tie
 
-returns : tie.Need-returns
-returns c = (rw (pick-is, c .if1 .taken), tt)
-
 returns-2 : tie.Need-returns-2
 returns-2 c = (rw (pick-is, open-yes (c .before .before .before .before .args .w .gate) (c .before .before .if1 .left), sym (c .before .holds-only .ensures) ∙ not-true _ (c .if2 .taken)), tt)
 
@@ -21,8 +18,7 @@ returns-4 : tie.Need-returns-4
 returns-4 c =
     let at-holds-only = c .before .before .before .before .before in
     let at-if1 = at-holds-only .before in
-    let start = at-if1 .before .before in
-    (rw (pick-is, open-yes (start .args .w .gate) (at-if1 .if1 .left), sym (at-holds-only .holds-only .ensures) ∙ not-false _ (c .before .before .before .before .if2 .left), sym (c .before .before .before .is-unset .ensures) ∙ not-false _ (c .before .before .if3 .left), sym (c .before .may-pick .ensures) ∙ not-true _ (c .if4 .taken)), tt)
+    (rw (pick-is, open-yes (at-if1 .before .before .args .w .gate) (at-if1 .if1 .left), sym (at-holds-only .holds-only .ensures) ∙ not-false _ (c .before .before .before .before .if2 .left), sym (c .before .before .before .is-unset .ensures) ∙ not-false _ (c .before .before .if3 .left), sym (c .before .may-pick .ensures) ∙ not-true _ (c .if4 .taken)), tt)
 
 returns-5 : tie.Need-returns-5
 returns-5 c =
@@ -37,5 +33,5 @@ returns-5 c =
 pub pick-spec : {M : Type 1} → statement M
 pick-spec =
     tie.close
-    (tie.spec returns (λ c κs. search needs) returns-2 (λ c κs. search needs) returns-3 (λ c κs. search needs) returns-4 (λ c. search needs)
+    (tie.spec (λ c. (rw (pick-is, c .if1 .taken), tt)) (λ c κs. search needs) returns-2 (λ c κs. search needs) returns-3 (λ c κs. search needs) returns-4 (λ c. search needs)
     (λ c. search needs) (λ c. search needs) returns-5)

@@ -10,8 +10,5 @@ returns : tie.Need-returns
 unfolding pushed
 returns c = (rw (length-flags, lt-ltb _ _ (c .before .if1 .taken)) (c .push .ensures .0), c .push .ensures .1)
 
-returns-2 : tie.Need-returns-2
-returns-2 c = (rw (length-flags, le-ltb _ _ (c .if1 .left)), tt)
-
 pub previous-spec : {M : Type 1} → statement M
-previous-spec = tie.close (tie.spec (λ c κs. search needs) returns returns-2)
+previous-spec = tie.close (tie.spec (λ c κs. search needs) returns (λ c. (rw (length-flags, le-ltb _ _ (c .if1 .left)), tt)))

@@ -26,8 +26,7 @@ ruled-requires c κs = (c .before .before .before .before .before .before .befor
 returns-5 : tie.Need-returns-5
 returns-5 c =
     let at-if2 = c .before .before .before .before .before in
-    let at-if1 = at-if2 .before .before in
-    (rw (at-if1 .if1 .left, at-if2 .if2 .left, sorts-none, sym (c .before .before .before .before .is-unset .ensures) ∙ not-false _ (c .before .before .before .if3 .left), sym (c .before .before .may-settle .ensures) ∙ not-false _ (c .before .if4 .left)) (ap some (c .ruled .ensures .0)), c .ruled .ensures .1)
+    (rw (at-if2 .before .before .if1 .left, at-if2 .if2 .left, sorts-none, sym (c .before .before .before .before .is-unset .ensures) ∙ not-false _ (c .before .before .before .if3 .left), sym (c .before .before .may-settle .ensures) ∙ not-false _ (c .before .if4 .left)) (ap some (c .ruled .ensures .0)), c .ruled .ensures .1)
 
 pub settle-spec : {M : Type 1} → statement M
 settle-spec =

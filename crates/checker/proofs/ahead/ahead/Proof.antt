@@ -17,21 +17,8 @@ returns c = c .before .before .before .comparison-ahead .ensures (c .before .bef
 returns-2 : tie.Need-returns-2
 returns-2 c = c .before .operation-ahead .ensures (c .if2 .taken)
 
-returns-3 : tie.Need-returns-3
-returns-3 c = c .single .ensures
-
 pub ahead-spec : {M : Type 1} → statement M
 ahead-spec =
     tie.close
-    (tie.spec
-    (λ c κs. search needs)
-    (λ c. search needs)
-    mul-k
-    add-k-2
-    (λ c. search needs)
-    returns
-    (λ c κs. search needs)
-    (λ c. search needs)
-    returns-2
-    (λ c κs. search needs)
-    returns-3)
+    (tie.spec (λ c κs. search needs) (λ c. search needs) mul-k add-k-2 (λ c. search needs) returns (λ c κs. search needs)
+    (λ c. search needs) returns-2 (λ c κs. search needs) (λ c. c .single .ensures))

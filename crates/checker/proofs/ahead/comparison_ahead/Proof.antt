@@ -25,28 +25,8 @@ returns-11 c =
 pub comparison-ahead-spec : {M : Type 1} → statement M
 comparison-ahead-spec =
     tie.close
-    (tie.spec
-    (λ c. search needs)
-    (λ c e. absurd (false≢true e))
-    (λ c e. absurd (false≢true e))
-    (λ c. search needs)
-    (λ c e. absurd (false≢true e))
-    (λ c. search needs)
-    (λ c. search needs)
-    (λ c e. absurd (false≢true e))
-    (λ c. search needs)
-    (λ c. search needs)
-    (λ c e. absurd (false≢true e))
-    (λ c e. absurd (false≢true e))
-    (λ c. search needs)
-    (λ c. search needs)
-    (λ c e. absurd (false≢true e))
-    (λ c e. absurd (false≢true e))
-    (λ c. search needs)
-    (λ c e. absurd (false≢true e))
-    (λ c. search needs)
-    (λ c. search needs)
-    (λ c κs. search needs)
-    returns-10
-    (λ c κs. search needs)
-    returns-11)
+    (tie.spec (λ c. search needs) (λ c e. absurd (false≢true e)) (λ c e. absurd (false≢true e)) (λ c. search needs)
+    (λ c e. absurd (false≢true e)) (λ c. search needs) (λ c. search needs) (λ c e. absurd (false≢true e)) (λ c. search needs)
+    (λ c. search needs) (λ c e. absurd (false≢true e)) (λ c e. absurd (false≢true e)) (λ c. search needs) (λ c. search needs)
+    (λ c e. absurd (false≢true e)) (λ c e. absurd (false≢true e)) (λ c. search needs) (λ c e. absurd (false≢true e)) (λ c. search needs)
+    (λ c. search needs) (λ c κs. search needs) returns-10 (λ c κs. search needs) returns-11)

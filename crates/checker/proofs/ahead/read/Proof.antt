@@ -7,9 +7,6 @@ use Rattle.bytecode.proofs.Fetching.{number-within, fetch-none, fetch-alone, fe
 use Rattle.checker.proofs.ahead.read.Statement.{statement}
 use Rattle.checker.proofs.ahead.read.Tie as tie
 
-returns : tie.Need-returns
-returns c = (sym (fetch-none _ _ (c .if1 .taken)), tt)
-
 returns-2 : tie.Need-returns-2
 returns-2 c =
     (sym (fetch-malformed _ _ (c .before .before .before .before .before .before .if1 .left) (sym (c .before .before .before .before .has-operand .ensures) ∙ c .before .before .before .if2 .taken) (sym (c .before .before .unsigned-at .ensures) ∙ ap unsignedRead (c .enum-told .given .1))), tt)
@@ -32,5 +29,5 @@ returns-4 c =
 pub read-spec : {M : Type 1} → statement M
 read-spec =
     tie.close
-    (tie.spec returns (λ c. search needs) (λ c. search needs) (λ c κs. search needs) (λ c κs. search needs) (λ c. search needs)
+    (tie.spec (λ c. (sym (fetch-none _ _ (c .if1 .taken)), tt)) (λ c. search needs) (λ c. search needs) (λ c κs. search needs) (λ c κs. search needs) (λ c. search needs)
     (λ c. search needs) returns-2 returns-3 returns-4)

@@ -5,8 +5,9 @@ use lib.ListN.{length-drop}
 use lib.Seq.{length-take-le}
 use borrow.Author.Needs.{needs}
 use Rattle.bytecode.proofs.SoundHeader.{headed-stands, headed-broken}
+use Rattle.leb128.proofs.Stores.{rest-of}
 use Rattle.checker.specs.Results.{checkedAnswer, CheckedWithin}
-use Rattle.checker.proofs.Checking.{rest-of, broken-header, room-low, room-high, room-start, timed-walked}
+use Rattle.checker.proofs.Checking.{broken-header, room-low, room-high, room-start, timed-walked}
 use Rattle.checker.proofs.timed.survey_ranges.Statement.{statement}
 use Rattle.checker.proofs.timed.survey_ranges.Tie as tie
 
@@ -58,31 +59,8 @@ returns-3 c =
 pub survey-ranges-spec : {M : Type 1} → statement M
 survey-ranges-spec =
     tie.close
-    (tie.spec
-    (λ c κs. search needs)
-    (λ c. search needs)
-    (λ c. search needs)
-    sub-code
-    part-code-start
-    (λ c. search needs)
-    slice-reshare-prefix-walk
-    slice-aggregate-walk
-    slice-reshare-prefix-walk-2
-    slice-aggregate-walk-2
-    slice-reshare-prefix-walk-3
-    slice-aggregate-walk-3
-    walk-requires
-    (λ c. search needs)
-    (λ c. search needs)
-    (λ c. search needs)
-    (λ c. search needs)
-    (λ c. search needs)
-    returns
-    (λ c. search needs)
-    (λ c. search needs)
-    (λ c. search needs)
-    returns-2
-    (λ c. search needs)
-    (λ c. search needs)
-    (λ c. search needs)
-    returns-3)
+    (tie.spec (λ c κs. search needs) (λ c. search needs) (λ c. search needs) sub-code part-code-start (λ c. search needs)
+    slice-reshare-prefix-walk slice-aggregate-walk slice-reshare-prefix-walk-2 slice-aggregate-walk-2 slice-reshare-prefix-walk-3
+    slice-aggregate-walk-3 walk-requires (λ c. search needs) (λ c. search needs) (λ c. search needs) (λ c. search needs) (λ c. search needs)
+    returns (λ c. search needs) (λ c. search needs) (λ c. search needs) returns-2 (λ c. search needs) (λ c. search needs)
+    (λ c. search needs) returns-3)

@@ -58,19 +58,5 @@ returns-3 c = (timing-ends (c .before .before .before .loop .inv) (c .before .be
 pub walk-spec : {M : Type 1} → statement M
 walk-spec =
     tie.close
-    (tie.spec
-    Inv-loop
-    μ-loop
-    initial-requires
-    loop-holds
-    turn-requires
-    (λ c. search needs)
-    (λ c. search needs)
-    add-t17
-    returns
-    loop-less
-    loop-again
-    complete-requires
-    returns-2
-    add-t19
-    returns-3)
+    (tie.spec Inv-loop μ-loop initial-requires loop-holds turn-requires (λ c. search needs) (λ c. search needs) add-t17 returns loop-less
+    loop-again complete-requires returns-2 add-t19 returns-3)

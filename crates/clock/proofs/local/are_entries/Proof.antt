@@ -20,9 +20,6 @@ Inv-loop table last₀ i₀ last i = (i ≤ length table) × (entriesFit (toZ w6
 abbrev μ-loop : tie.MeasureT-loop
 μ-loop table last₀ i₀ last i = length table - i
 
-loop-holds : tie.Need-loop-holds Inv-loop μ-loop
-loop-holds c = (omega arith, refl)
-
 mul-is-entry : tie.Need-mul-is-entry Inv-loop μ-loop
 mul-is-entry c = omega (arith, c .before .before .good .0 .1)
 
@@ -53,6 +50,6 @@ returns-2 c = sym (fit-end _ _ _ (c .loop-test .left)) ∙ c .before .loop .inv 
 pub are-entries-spec : {M : Type 1} → statement M
 are-entries-spec =
     tie.close
-    (tie.spec Inv-loop μ-loop loop-holds (λ c. omega arith) mul-is-entry (λ c. omega arith) (λ c. omega arith) mul-is-entry-2
+    (tie.spec Inv-loop μ-loop (λ c. (omega arith, refl)) (λ c. omega arith) mul-is-entry (λ c. omega arith) (λ c. omega arith) mul-is-entry-2
     (λ c. omega arith) (λ c κs. search needs) returns mul-last (λ c. omega arith) (λ c. omega arith) (λ c. omega arith) loop-again
     returns-2)

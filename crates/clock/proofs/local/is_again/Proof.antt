@@ -20,9 +20,6 @@ Inv-loop table utc local i₀ i = (i ≤ length table) × SmallNumbers (entriesO
 abbrev μ-loop : tie.MeasureT-loop
 μ-loop table utc local i₀ i = length table - i
 
-loop-holds : tie.Need-loop-holds Inv-loop μ-loop
-loop-holds c = (omega arith, c .pre .0, again-start _ _)
-
 mul-repeats : tie.Need-mul-repeats Inv-loop μ-loop
 mul-repeats c = omega (arith, c .before .before .good .0 .1)
 
@@ -52,5 +49,5 @@ returns-2 c = sym (repeats-end _ _ _ _ (c .loop-test .left)) ∙ rw (same64 (c .
 pub is-again-spec : {M : Type 1} → statement M
 is-again-spec =
     tie.close
-    (tie.spec Inv-loop μ-loop loop-holds (λ c. omega arith) (λ c. omega arith) mul-repeats (λ c. omega arith) repeats-requires returns
+    (tie.spec Inv-loop μ-loop (λ c. (omega arith, c .pre .0, again-start _ _)) (λ c. omega arith) (λ c. omega arith) mul-repeats (λ c. omega arith) repeats-requires returns
     (λ c. omega arith) (λ c. omega arith) loop-again returns-2)

@@ -6,17 +6,8 @@ use Rattle.clock.proofs.Entries.{table-odd, table-empty, table-long, ta
 use Rattle.clock.proofs.local.is_table.Statement.{statement}
 use Rattle.clock.proofs.local.is_table.Tie as tie
 
-returns : tie.Need-returns
-returns c = sym (table-odd _ (λ e. omega (arith, c .if1 .taken)))
-
-returns-2 : tie.Need-returns-2
-returns-2 c = sym (table-empty _ (omega arith) (omega arith))
-
-returns-3 : tie.Need-returns-3
-returns-3 c = sym (table-long _ (omega arith) (omega arith) (omega arith))
-
 returns-4 : tie.Need-returns-4
 returns-4 c = c .are-entries .ensures ∙ sym (table-fits _ (omega arith) (omega arith) (omega arith))
 
 pub is-table-spec : {M : Type 1} → statement M
-is-table-spec = tie.close (tie.spec returns returns-2 returns-3 (λ c κs. search needs) returns-4)
+is-table-spec = tie.close (tie.spec (λ c. sym (table-odd _ (λ e. omega (arith, c .if1 .taken)))) (λ c. sym (table-empty _ (omega arith) (omega arith))) (λ c. sym (table-long _ (omega arith) (omega arith) (omega arith))) (λ c κs. search needs) returns-4)

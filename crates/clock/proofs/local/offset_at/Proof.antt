@@ -20,9 +20,6 @@ Inv-loop table utc held₀ i₀ held i = (i ≤ length table) × (offsetFrom (to
 abbrev μ-loop : tie.MeasureT-loop
 μ-loop table utc held₀ i₀ held i = length table - i
 
-returns : tie.Need-returns Inv-loop μ-loop
-returns c = sym (offset-none _ _ (c .if1 .taken))
-
 loop-holds : tie.Need-loop-holds Inv-loop μ-loop
 loop-holds c =
     let f : SFits w64 (getD (c .before .before .args .table .now) 1 (pos 0)) = record { sfits = c .held .given } in
@@ -49,6 +46,6 @@ returns-2 c = sym (offset-end _ _ _ _ (c .loop-test .left)) ∙ rw (same64 (c .b
 pub offset-at-spec : {M : Type 1} → statement M
 offset-at-spec =
     tie.close
-    (tie.spec Inv-loop μ-loop returns (λ c. omega arith) loop-holds (λ c. omega arith) mul-in-force (λ c. omega arith)
+    (tie.spec Inv-loop μ-loop (λ c. sym (offset-none _ _ (c .if1 .taken))) (λ c. omega arith) loop-holds (λ c. omega arith) mul-in-force (λ c. omega arith)
     (λ c. omega arith) mul-in-force-2 (λ c. omega arith) (λ c κs. search needs) (λ c. omega arith) (λ c. omega arith) loop-again
     returns-2)

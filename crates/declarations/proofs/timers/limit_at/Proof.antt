@@ -5,9 +5,8 @@ use Rattle.lexer.proofs.KindNumbers.{kind-is, kind-is-not}
 use Rattle.lexer.proofs.Tokens.{is-token, is-fault}
 use Rattle.lexer.specs.declared.Place.{Place}
 use Rattle.phrases.specs.Inner.Steps.{parsedOf, numberTold}
-use Rattle.declarations.proofs.TimerWays.{done-place}
+use Rattle.declarations.proofs.TimerWays.{done-place, n-fault, n-no-digits, n-low, n-high, n-in}
 use Rattle.declarations.proofs.Entries.{step-refused}
-use Rattle.declarations.proofs.TimerWays.{n-fault, n-no-digits, n-low, n-high, n-in}
 use borrow.Author.Needs.{needs}
 use Rattle.declarations.proofs.timers.limit_at.Statement.{statement}
 use Rattle.declarations.proofs.timers.limit_at.Tie as tie

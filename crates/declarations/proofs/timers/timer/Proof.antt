@@ -99,26 +99,6 @@ returns-3 c = timer-done _ _ _ _ _ _ _ _ _ _ _ _ _ (c .before .before .before .b
 pub timer-spec : {M : Type 1} → statement M
 timer-spec =
     tie.close
-    (tie.spec
-    new-name-requires
-    enum-known-named
-    enum-told
-    same-length
-    same-length-2
-    returns
-    add-rest
-    rest-requires
-    enum-known-read
-    enum-told-2
-    same-length-3
-    same-length-4
-    returns-2
-    store-requires
-    put-range-requires
-    reached-requires
-    same-length-5
-    same-length-6
-    same-length-7
-    same-length-8
-    same-length-9
-    returns-3)
+    (tie.spec new-name-requires enum-known-named enum-told same-length same-length-2 returns add-rest rest-requires enum-known-read
+    enum-told-2 same-length-3 same-length-4 returns-2 store-requires put-range-requires reached-requires same-length-5 same-length-6
+    same-length-7 same-length-8 same-length-9 returns-3)

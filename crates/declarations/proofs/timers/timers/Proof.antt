@@ -144,35 +144,7 @@ loop-again c = turns-on _ _ _ _ _ _ _ _ _ _ _ _ _ _ _ _ _ _ (c .before .before .
 pub timers-spec : {M : Type 1} → statement M
 timers-spec =
     tie.close
-    (tie.spec
-    Inv-loop
-    μ-loop
-    loop-holds
-    token-at-requires
-    enum-known-read
-    enum-told
-    same-length
-    same-length-2
-    same-length-3
-    same-length-4
-    same-length-5
-    returns
-    reached-requires
-    same-length-6
-    same-length-7
-    same-length-8
-    same-length-9
-    same-length-10
-    returns-2
-    timer-requires
-    enum-known-one
-    enum-told-2
-    same-length-11
-    same-length-12
-    same-length-13
-    same-length-14
-    same-length-15
-    returns-3
-    add-known
-    loop-less
+    (tie.spec Inv-loop μ-loop loop-holds token-at-requires enum-known-read enum-told same-length same-length-2 same-length-3 same-length-4
+    same-length-5 returns reached-requires same-length-6 same-length-7 same-length-8 same-length-9 same-length-10 returns-2 timer-requires
+    enum-known-one enum-told-2 same-length-11 same-length-12 same-length-13 same-length-14 same-length-15 returns-3 add-known loop-less
     loop-again)

@@ -9,8 +9,7 @@ use Rattle.lexer.proofs.Tokens.{is-token, is-fault}
 use Rattle.lexer.specs.declared.Place.{Place}
 use Rattle.phrases.specs.Inner.Steps.{parsedOf, numberTold}
 use Rattle.declarations.proofs.Entries.{step-refused}
-use Rattle.declarations.proofs.TimerWays.{done-place}
-use Rattle.declarations.proofs.TimerWays.{w-fault, w-no-name, w-long, w-unknown, w-found, w-wrong}
+use Rattle.declarations.proofs.TimerWays.{done-place, w-fault, w-no-name, w-long, w-unknown, w-found, w-wrong}
 use borrow.Author.Needs.{needs}
 use Rattle.declarations.proofs.timers.watched_at.Statement.{statement}
 use Rattle.declarations.proofs.timers.watched_at.Tie as tie

@@ -16,17 +16,11 @@ Inv-loop names i₀ i =
 abbrev μ-loop : tie.MeasureT-loop
 μ-loop names i₀ i = names .count - i
 
-loop-holds : tie.Need-loop-holds Inv-loop μ-loop
-loop-holds c = (omega arith, refl)
-
 is-known-requires : tie.Need-is-known-requires Inv-loop μ-loop
 is-known-requires c κs = (c .if1 .taken, c .before .before .before .pre)
 
 add-i : tie.Need-add-i Inv-loop μ-loop
 add-i c = omega (arith, c .before .before .before .before .before .pre)
-
-loop-less : tie.Need-loop-less Inv-loop μ-loop
-loop-less c = omega arith
 
 loop-again : tie.Need-loop-again Inv-loop μ-loop
 loop-again c =
@@ -35,8 +29,7 @@ loop-again c =
 
 returns : tie.Need-returns Inv-loop μ-loop
 returns c =
-    let at-loop = c .before .before .before .before in
-    all-stop _ _ _ (c .before .before .if1 .taken) (sym (c .before .is-known .ensures) ∙ c .if2 .left) ∙ at-loop .loop .inv .1
+    all-stop _ _ _ (c .before .before .if1 .taken) (sym (c .before .is-known .ensures) ∙ c .if2 .left) ∙ (c .before .before .before .before) .loop .inv .1
 
 returns-2 : tie.Need-returns-2 Inv-loop μ-loop
 returns-2 c = all-end _ _ _ (c .if1 .left) ∙ c .before .before .loop .inv .1
@@ -44,6 +37,4 @@ returns-2 c = all-end _ _ _ (c .if1 .left) ∙ c .before .before .loop .inv .1
 pub all-known-spec : {M : Type 1} → statement M
 all-known-spec =
     tie.close
-    (tie.spec
-    Inv-loop
-    μ-loop loop-holds is-known-requires add-i loop-less loop-again returns returns-2)
+    (tie.spec Inv-loop μ-loop (λ c. (omega arith, refl)) is-known-requires add-i (λ c. omega arith) loop-again returns returns-2)

@@ -5,8 +5,5 @@ use Rattle.semantics.proofs.Flags.{flags-first}
 use Rattle.expressions.proofs.scope.first_names.Statement.{statement}
 use Rattle.expressions.proofs.scope.first_names.Tie as tie
 
-returns : tie.Need-returns
-returns c = (refl, rw (c .ones .ensures) (flags-first _ _))
-
 pub first-names-spec : {M : Type 1} → statement M
-first-names-spec = tie.close (tie.spec (λ c κs. search needs) returns)
+first-names-spec = tie.close (tie.spec (λ c κs. search needs) (λ c. (refl, rw (c .ones .ensures) (flags-first _ _))))

@@ -9,8 +9,4 @@ returns : tie.Need-returns
 returns c = c .bit .ensures ∙ sym (flag-at _ _ _ (c .before .pre .0))
 
 pub is-known-spec : {M : Type 1} → statement M
-is-known-spec =
-    tie.close
-    (tie.spec
-    (λ c κs. search needs)
-    returns)
+is-known-spec = tie.close (tie.spec (λ c κs. search needs) returns)

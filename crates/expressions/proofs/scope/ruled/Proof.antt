@@ -5,8 +5,5 @@ use Rattle.arith.proofs.Flags.{flag-set}
 use Rattle.expressions.proofs.scope.ruled.Statement.{statement}
 use Rattle.expressions.proofs.scope.ruled.Tie as tie
 
-returns : tie.Need-returns
-returns c = (refl, rw (c .with-bit .ensures) (flag-set _ _ _))
-
 pub ruled-spec : {M : Type 1} → statement M
-ruled-spec = tie.close (tie.spec (λ c κs. search needs) returns)
+ruled-spec = tie.close (tie.spec (λ c κs. search needs) (λ c. (refl, rw (c .with-bit .ensures) (flag-set _ _ _))))

@@ -11,8 +11,5 @@ pass-on-requires c κs = (c .before .before .pre .0, c .before .before .pre .1, 
 returns : tie.Need-returns
 returns c = first-over (c .before .before .before .args .code .now) (c .before .before .before .args .b) (c .pass-on .result) (c .before .if1 .taken) (c .pass-on .ensures)
 
-returns-2 : tie.Need-returns-2
-returns-2 c = inl (c .if1 .left, refl, refl)
-
 pub pass-first-spec : {M : Type 1} → statement M
-pass-first-spec = tie.close (tie.spec pass-on-requires returns returns-2)
+pass-first-spec = tie.close (tie.spec pass-on-requires returns (λ c. inl (c .if1 .left, refl, refl)))

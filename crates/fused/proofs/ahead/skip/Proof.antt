@@ -15,9 +15,6 @@ Inv-loop code from w held₀ at₀ steps₀ held at steps = SkipsTo code w from 
 abbrev μ-loop : tie.MeasureT-loop
 μ-loop code from w held₀ at₀ steps₀ held at steps = length code - at
 
-loop-holds : tie.Need-loop-holds Inv-loop μ-loop
-loop-holds c = stays
-
 skip-one-requires : tie.Need-skip-one-requires Inv-loop μ-loop
 skip-one-requires c κs = (c .before .before .before .before .before .pre, skips-kept (c .before .before .before .before .before .args .code .now) (c .before .before .before .before .before .args .w) (c .before .before .before .before .before .args .from) (c .before .before .before .before .before .pre) _ _ _ (c .before .loop .inv) .0, c .before .before .if1 .taken, c .loop-test .taken)
 
@@ -38,8 +35,5 @@ returns c = c .before .loop .inv
 returns-2 : tie.Need-returns-2 Inv-loop μ-loop
 returns-2 c = c .before .before .before .before .loop .inv
 
-returns-3 : tie.Need-returns-3 Inv-loop μ-loop
-returns-3 c = stays
-
 pub skip-spec : {M : Type 1} → statement M
-skip-spec = tie.close (tie.spec Inv-loop μ-loop loop-holds skip-one-requires (λ c. search needs) (λ c. search needs) add-steps loop-less loop-again returns returns-2 returns-3)
+skip-spec = tie.close (tie.spec Inv-loop μ-loop (λ c. stays) skip-one-requires (λ c. search needs) (λ c. search needs) add-steps loop-less loop-again returns returns-2 (λ c. stays))

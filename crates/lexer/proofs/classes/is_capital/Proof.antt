@@ -3,11 +3,5 @@ use borrow.Author.Tests.{lt-leb, le-leb}
 use Rattle.lexer.proofs.classes.is_capital.Statement.{statement}
 use Rattle.lexer.proofs.classes.is_capital.Tie as tie
 
-returns : tie.Need-returns
-returns c = simp (lt-leb _ _ (c .if1 .taken))
-
-returns-2 : tie.Need-returns-2
-returns-2 c = simp (le-leb _ _ (c .if1 .left))
-
 pub is-capital-spec : {M : Type 1} → statement M
-is-capital-spec = tie.close (tie.spec returns returns-2)
+is-capital-spec = tie.close (tie.spec (λ c. simp (lt-leb _ _ (c .if1 .taken))) (λ c. simp (le-leb _ _ (c .if1 .left))))

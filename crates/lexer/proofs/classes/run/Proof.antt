@@ -16,18 +16,6 @@ Inv-loop text at class i₀ i = runEnd (member class) text i ≡ runEnd (member 
 abbrev μ-loop : tie.MeasureT-loop
 μ-loop text at class i₀ i = length text - i
 
-loop-holds : tie.Need-loop-holds Inv-loop μ-loop
-loop-holds c = refl
-
-shared-slice-read-is-in : tie.Need-shared-slice-read-is-in Inv-loop μ-loop
-shared-slice-read-is-in c = omega arith
-
-add-i : tie.Need-add-i Inv-loop μ-loop
-add-i c = omega arith
-
-loop-less : tie.Need-loop-less Inv-loop μ-loop
-loop-less c = omega arith
-
 loop-again : tie.Need-loop-again Inv-loop μ-loop
 loop-again c = sym (run-step (member (c .before .before .before .before .before .before .args .class)) _ _ (c .before .before .before .loop-test .taken) (sym (c .before .is-in .ensures) ∙ c .if1 .taken)) ∙ c .before .before .before .before .loop .inv
 
@@ -40,4 +28,4 @@ returns-2 c = sym (run-out (member (c .before .before .before .args .class)) _ _
 pub run-spec : {M : Type 1} → statement M
 run-spec =
     tie.close
-    (tie.spec Inv-loop μ-loop loop-holds shared-slice-read-is-in (λ c κs. search needs) add-i loop-less loop-again returns returns-2)
+    (tie.spec Inv-loop μ-loop (λ c. refl) (λ c. omega arith) (λ c κs. search needs) (λ c. omega arith) (λ c. omega arith) loop-again returns returns-2)

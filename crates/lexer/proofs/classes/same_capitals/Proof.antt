@@ -16,24 +16,6 @@ Inv-loop a b i₀ i = (i ≤ length a) × (sameName (drop i a) (drop i b) ≡ tr
 abbrev μ-loop : tie.MeasureT-loop
 μ-loop a b i₀ i = i
 
-returns : tie.Need-returns Inv-loop μ-loop
-returns c = sym (name-length _ _ (c .if1 .taken))
-
-loop-holds : tie.Need-loop-holds Inv-loop μ-loop
-loop-holds c = (omega arith, search (name-begin, arith))
-
-sub-last : tie.Need-sub-last Inv-loop μ-loop
-sub-last c = omega arith
-
-shared-slice-read-same-letter : tie.Need-shared-slice-read-same-letter Inv-loop μ-loop
-shared-slice-read-same-letter c = omega arith
-
-shared-slice-read-same-letter-2 : tie.Need-shared-slice-read-same-letter-2 Inv-loop μ-loop
-shared-slice-read-same-letter-2 c = omega arith
-
-loop-less : tie.Need-loop-less Inv-loop μ-loop
-loop-less c = omega arith
-
 loop-again : tie.Need-loop-again Inv-loop μ-loop
 loop-again c =
     let at-loop = c .before .before .before .before .before in
@@ -48,5 +30,5 @@ returns-3 c = name-whole _ _ (c .before .before .if1 .left) _ (c .loop-test .lef
 pub same-capitals-spec : {M : Type 1} → statement M
 same-capitals-spec =
     tie.close
-    (tie.spec Inv-loop μ-loop returns loop-holds sub-last shared-slice-read-same-letter shared-slice-read-same-letter-2 (λ c κs. search needs) loop-less loop-again
+    (tie.spec Inv-loop μ-loop (λ c. sym (name-length _ _ (c .if1 .taken))) (λ c. (omega arith, search (name-begin, arith))) (λ c. omega arith) (λ c. omega arith) (λ c. omega arith) (λ c κs. search needs) (λ c. omega arith) loop-again
     returns-2 returns-3)

@@ -7,9 +7,6 @@ use Rattle.lexer.proofs.Capitals.{letter-same, letter-small, letter-cap
 use Rattle.lexer.proofs.classes.same_letter.Statement.{statement}
 use Rattle.lexer.proofs.classes.same_letter.Tie as tie
 
-returns : tie.Need-returns
-returns c = sym (letter-same _ _ (c .if1 .taken))
-
 returns-2 : tie.Need-returns-2
 returns-2 c =
     let a = c .before .before .before .before .before .args in
@@ -32,5 +29,5 @@ returns-4 c =
 pub same-letter-spec : {M : Type 1} → statement M
 same-letter-spec =
     tie.close
-    (tie.spec returns (λ c κs. search needs) (λ c κs. search needs) (λ c. search needs) (λ c κs. search needs) returns-2 (λ c. search needs)
+    (tie.spec (λ c. sym (letter-same _ _ (c .if1 .taken))) (λ c κs. search needs) (λ c κs. search needs) (λ c. search needs) (λ c κs. search needs) returns-2 (λ c. search needs)
     (λ c κs. search needs) returns-3 returns-4)

@@ -7,12 +7,12 @@ use lib.ListN.{getD}
 use borrow.Author.Tests.{ne-eqb}
 use Rattle.leb128.specs.Results.{unsignedRead}
 use Rattle.bytecode.specs.Instructions.{instructionOf, hasOperand}
-use Rattle.bytecode.proofs.Codes.{none-below, none-above, from-four, above}
+use Rattle.bytecode.proofs.Codes.{none-below, none-above, from-four, above, no-operand}
 use Rattle.bytecode.proofs.Fetching.{number-within}
 use Rattle.machine.specs.Inner.Memory.{RangedIn}
 use Rattle.machine.specs.Inner.Dispatch.{registers}
 use Rattle.machine.proofs.Codes.{calculated-is, related-is}
-use Rattle.machine.proofs.Fetches.{no-operand, read-alone, read-malformed, fetch-unlisted}
+use Rattle.machine.proofs.Fetches.{read-alone, read-malformed, fetch-unlisted}
 use Rattle.machine.proofs.Dispatching.{none-stops, one-done, alone-done, operand-done}
 use borrow.Author.Needs.{needs}
 use Rattle.machine.proofs.dispatch.dispatch_one.Statement.{statement}

@@ -12,6 +12,4 @@ returns-2 : tie.Need-returns-2
 returns-2 c = ap (dispatchedOf (c .before .before .before .args .next)) (sym (c .before .s2 .given .1))
 
 pub onward-spec : {M : Type 1} → statement M
-onward-spec =
-    tie.close
-    (tie.spec (λ c. search needs) (λ c. search needs) returns returns-2)
+onward-spec = tie.close (tie.spec (λ c. search needs) (λ c. search needs) returns returns-2)

@@ -11,9 +11,6 @@ use mir.Facts.{toZ-ofZ}
 use Rattle.machine.proofs.held.load.Statement.{statement}
 use Rattle.machine.proofs.held.load.Tie as tie
 
-returns : tie.Need-returns
-returns c = (λ t. rw (le-ltb _ _ (c .if1 .taken)), search needs)
-
 returns-2 : tie.Need-returns-2
 returns-2 c =
     let a = c .before .before .before .before .before .args in
@@ -21,6 +18,4 @@ returns-2 c =
     (λ t. c .before .push .ensures .0 (record { ranges = []; timers = []; millis = 0 }) [] t ∙ rw (toZ-ofZ f, lt-ltb _ _ (c .before .before .before .before .if1 .left)), c .before .push .ensures .1)
 
 pub load-spec : {M : Type 1} → statement M
-load-spec =
-    tie.close
-    (tie.spec returns (λ c. search needs) (λ c. search needs) (λ c κs. search needs) (λ c. search needs) returns-2)
+load-spec = tie.close (tie.spec (λ c. (λ t. rw (le-ltb _ _ (c .if1 .taken)), search needs)) (λ c. search needs) (λ c. search needs) (λ c κs. search needs) (λ c. search needs) returns-2)

@@ -21,9 +21,6 @@ Inv-loop low high values i₀ i = Testing low high values i
 abbrev μ-loop : tie.MeasureT-loop
 μ-loop low high values i₀ i = length values - i
 
-loop-holds : tie.Need-loop-holds Inv-loop μ-loop
-loop-holds c = record { among = omega arith; goes = λ ns r. refl }
-
 returns : tie.Need-returns Inv-loop μ-loop
 returns c =
     let at-loop-test = c .before .before .before .before .before in
@@ -58,5 +55,5 @@ returns-2 c = testing-ends (c .before .loop .inv) (c .loop-test .left)
 pub all-in-range-spec : {M : Type 1} → statement M
 all-in-range-spec =
     tie.close
-    (tie.spec Inv-loop μ-loop loop-holds (λ c. search needs) (λ c. search needs) (λ c. search needs) (λ c. search needs) (λ c. search needs)
+    (tie.spec Inv-loop μ-loop (λ c. record { among = omega arith; goes = λ ns r. refl }) (λ c. search needs) (λ c. search needs) (λ c. search needs) (λ c. search needs) (λ c. search needs)
     (λ c. search needs) (λ c κs. search needs) returns (λ c. search needs) (λ c. search needs) loop-again returns-2)

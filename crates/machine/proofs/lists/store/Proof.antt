@@ -17,9 +17,6 @@ Inv-loop to₀ at from end i₀ to i = (i ≤ end) × Storing to₀ from to at i
 abbrev μ-loop : tie.MeasureT-loop
 μ-loop to₀ at from end i₀ to i = end - i
 
-loop-holds : tie.Need-loop-holds Inv-loop μ-loop
-loop-holds c = (omega arith, storing-none _ _ _)
-
 loop-again : tie.Need-loop-again Inv-loop μ-loop
 loop-again c =
     let start = c .before .before .before .before in
@@ -32,5 +29,5 @@ returns c = (c .before .before .behind .ensures, storing-ends (c .before .loop .
 pub store-spec : {M : Type 1} → statement M
 store-spec =
     tie.close
-    (tie.spec Inv-loop μ-loop (λ c κs. search needs) loop-holds (λ c. search needs) (λ c. search needs) (λ c. search needs)
+    (tie.spec Inv-loop μ-loop (λ c κs. search needs) (λ c. (omega arith, storing-none _ _ _)) (λ c. search needs) (λ c. search needs) (λ c. search needs)
     (λ c. search needs) (λ c. search needs) (λ c. search needs) (λ c. search needs) loop-again (λ c. search needs) returns)

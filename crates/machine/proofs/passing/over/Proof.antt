@@ -8,15 +8,11 @@ use Rattle.machine.proofs.passing.over.Tie as tie
 
 returns : tie.Need-returns
 returns c =
-    let a = c .before .before .before .before .args in
-    ap (overOf (a .passing)) (sym (sym (c .before .before .unsigned-at .ensures) ∙ ap unsignedRead (c .enum-told .given .1)))
+    ap (overOf (c .before .before .before .before .args .passing)) (sym (sym (c .before .before .unsigned-at .ensures) ∙ ap unsignedRead (c .enum-told .given .1)))
 
 returns-2 : tie.Need-returns-2
 returns-2 c =
-    let a = c .before .before .before .before .before .args in
-    ap (overOf (a .passing)) (sym (sym (c .before .before .before .unsigned-at .ensures) ∙ ap unsignedRead (c .before .next .given .1)))
+    ap (overOf (c .before .before .before .before .before .args .passing)) (sym (sym (c .before .before .before .unsigned-at .ensures) ∙ ap unsignedRead (c .before .next .given .1)))
 
 pub over-spec : {M : Type 1} → statement M
-over-spec =
-    tie.close
-    (tie.spec (λ c. search needs) (λ c κs. search needs) (λ c. search needs) (λ c. search needs) returns returns-2)
+over-spec = tie.close (tie.spec (λ c. search needs) (λ c κs. search needs) (λ c. search needs) (λ c. search needs) returns returns-2)

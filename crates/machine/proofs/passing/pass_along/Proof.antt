@@ -18,9 +18,6 @@ abbrev μ-loop : tie.MeasureT-loop
 loop-holds : tie.Need-loop-holds Inv-loop μ-loop
 loop-holds c = (none-over (c .before .args .code .now) (c .before .args .from), omega arith, λ e. refl)
 
-past-requires : tie.Need-past-requires Inv-loop μ-loop
-past-requires c κs = omega (arith, c .if1 .left)
-
 add-steps : tie.Need-add-steps Inv-loop μ-loop
 add-steps c = omega (arith, c .before .before .before .before .before .loop-test .taken)
 
@@ -45,4 +42,4 @@ returns-3 c = (c .before .before .before .before .before .loop .inv .0, (c .befo
 pub pass-along-spec : {M : Type 1} → statement M
 pass-along-spec =
     tie.close
-    (tie.spec Inv-loop μ-loop loop-holds past-requires (λ c. search needs) (λ c. search needs) add-steps loop-less loop-again returns returns-2 returns-3)
+    (tie.spec Inv-loop μ-loop loop-holds (λ c κs. omega (arith, c .if1 .left)) (λ c. search needs) (λ c. search needs) add-steps loop-less loop-again returns returns-2 returns-3)

@@ -7,8 +7,5 @@ use Rattle.machine.proofs.passing.pass_first.Tie as tie
 returns : tie.Need-returns
 returns c = rw (c .before .if1 .taken) (c .pass-on .ensures)
 
-returns-2 : tie.Need-returns-2
-returns-2 c = rw (c .if1 .left) (refl, refl, refl)
-
 pub pass-first-spec : {M : Type 1} → statement M
-pass-first-spec = tie.close (tie.spec (λ c κs. search needs) returns returns-2)
+pass-first-spec = tie.close (tie.spec (λ c κs. search needs) returns (λ c. rw (c .if1 .left) (refl, refl, refl)))

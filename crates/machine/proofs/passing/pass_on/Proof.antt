@@ -10,7 +10,6 @@ use Rattle.machine.proofs.passing.pass_on.Tie as tie
 
 returns-2 : tie.Need-returns-2
 returns-2 c =
-    let a = c .before .before .before .before .args in
     (some-over _ _ _ _ (c .before .before .pass-along .ensures .1 .1) (c .before .before .before .before .pre .0) (c .if2 .taken), c .before .before .pass-along .ensures .1 .0, c .before .before .pass-along .ensures .0)
 
 returns-3 : tie.Need-returns-3

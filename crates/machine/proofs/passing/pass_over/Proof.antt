@@ -5,9 +5,9 @@ use native.Mathlib.Omega.{arith}
 use lib.ListN.{getD}
 use borrow.Author.Tests.{ne-eqb}
 use Rattle.bytecode.specs.Instructions.{instructionOf, hasOperand}
-use Rattle.bytecode.proofs.Codes.{none-below, none-above}
+use Rattle.bytecode.proofs.Codes.{none-below, none-above, no-operand}
 use Rattle.machine.proofs.Codes.{pass-other}
-use Rattle.machine.proofs.Fetches.{no-operand, low-operand, high-operand, fetch-unlisted}
+use Rattle.machine.proofs.Fetches.{low-operand, high-operand, fetch-unlisted}
 use Rattle.machine.proofs.PassingOver.{broken-over, alone-over, operand-over}
 use borrow.Author.Needs.{needs}
 use Rattle.machine.proofs.passing.pass_over.Statement.{statement}
@@ -21,9 +21,6 @@ returns c =
 
 pass-requires : tie.Need-pass-requires
 pass-requires c κs = (c .before .before .before .pre, c .match .keys2)
-
-returns-2 : tie.Need-returns-2
-returns-2 c = c .pass .ensures
 
 returns-3 : tie.Need-returns-3
 unfolding instructionOf hasOperand
@@ -69,4 +66,4 @@ pub pass-over-spec : {M : Type 1} → statement M
 pass-over-spec =
     tie.close
     (tie.spec (λ c. search needs) (λ c κs. search needs) pass-requires (λ c κs. search needs) (λ c κs. search needs) (λ c κs. search needs)
-    (λ c. search needs) (λ c κs. search needs) returns returns-2 returns-3 returns-4 returns-5 returns-6 returns-7 returns-8 returns-9)
+    (λ c. search needs) (λ c κs. search needs) returns (λ c. c .pass .ensures) returns-3 returns-4 returns-5 returns-6 returns-7 returns-8 returns-9)

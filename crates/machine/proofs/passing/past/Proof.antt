@@ -5,8 +5,9 @@ use native.Mathlib.Omega.{arith}
 use lib.ListN.{getD}
 use borrow.Author.Tests.{ne-eqb}
 use Rattle.leb128.specs.Results.{unsignedRead}
+use Rattle.bytecode.proofs.Codes.{no-operand}
 use Rattle.machine.proofs.Codes.{pass-other}
-use Rattle.machine.proofs.Fetches.{no-operand, low-operand}
+use Rattle.machine.proofs.Fetches.{low-operand}
 use Rattle.machine.proofs.PassingOver.{alone-over, number-over}
 use borrow.Author.Needs.{needs}
 use Rattle.machine.proofs.passing.past.Statement.{statement}

@@ -27,11 +27,8 @@ returns-2 c =
 returns-3 : tie.Need-returns-3
 unfolding compares due
 returns-3 c =
-    let a = c .before .before .args in
-    let e : eqZ (a .now) (pos 1) ≡ false = rw (toZ-ofZ (c .before .before .fits .now)) at (sym (c .before .is-equal .ensures) ∙ c .if1 .left) in
+    let e : eqZ (c .before .before .args .now) (pos 1) ≡ false = rw (toZ-ofZ (c .before .before .fits .now)) at (sym (c .before .is-equal .ensures) ∙ c .if1 .left) in
     rw e
 
 pub due-spec : {M : Type 1} → statement M
-due-spec =
-    tie.close
-    (tie.spec (λ c κs. search needs) returns returns-2 returns-3)
+due-spec = tie.close (tie.spec (λ c κs. search needs) returns returns-2 returns-3)

@@ -20,9 +20,8 @@ returns-2 : tie.Need-returns-2
 returns-2 c =
     let a = c .before .before .before .before .before .before .before .before .args in
     let p = c .before .before .before .before .before .before .before .before .pre in
-    let t = c .before .before .before .before .second .given in
     broken-over (a .code .now) (a .at) (p .0)
-    (timer-fetched (a .code .now) (a .at) (p .1) ∙ timer-second (a .code .now) (a .at + 1) _ _ (sym (c .before .before .before .before .before .before .unsigned-at .ensures) ∙ ap unsignedRead (t .1)) (sym (c .before .before .unsigned-at2 .ensures) ∙ ap unsignedRead (c .enum-told2 .given .1)))
+    (timer-fetched (a .code .now) (a .at) (p .1) ∙ timer-second (a .code .now) (a .at + 1) _ _ (sym (c .before .before .before .before .before .before .unsigned-at .ensures) ∙ ap unsignedRead (c .before .before .before .before .second .given .1)) (sym (c .before .before .unsigned-at2 .ensures) ∙ ap unsignedRead (c .enum-told2 .given .1)))
 
 returns-3 : tie.Need-returns-3
 returns-3 c =

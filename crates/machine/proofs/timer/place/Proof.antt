@@ -23,6 +23,4 @@ returns-2 c =
     rw (c .count-below2 .ensures .0) (sym (place-over (k .names) (k .timers) (c .before .before .args .t) (c .before .if1 .left)))
 
 pub place-spec : {M : Type 1} → statement M
-place-spec =
-    tie.close
-    (tie.spec (λ c κs. search needs) add-result returns (λ c κs. search needs) add-result-2 returns-2)
+place-spec = tie.close (tie.spec (λ c κs. search needs) add-result returns (λ c κs. search needs) add-result-2 returns-2)

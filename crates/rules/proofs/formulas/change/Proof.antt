@@ -31,8 +31,7 @@ returns-2 : tie.Need-returns-2
 returns-2 c =
     let at-cases = c .before .before .before .before .before .before .before .before in
     let at-opened = at-cases .before .before .before .before .before in
-    let at-change-opening = at-opened .before .before in
-    let p = found (at-change-opening .change-opening .ensures) (at-opened .opened .given .1) in
+    let p = found (at-opened .before .before .change-opening .ensures) (at-opened .opened .given .1) in
     not-part (at-cases .cases .ensures .0) (c .enum-told2 .given .1) (cases-refused _ _ _ _ p)
 
 returns-3 : tie.Need-returns-3
@@ -40,8 +39,7 @@ returns-3 c =
     let at-listed = c .before .before .before .before in
     let at-cases = at-listed .before .before .before .before .before .before .before .before in
     let at-opened = at-cases .before .before .before .before .before in
-    let at-change-opening = at-opened .before .before in
-    let p = found (at-change-opening .change-opening .ensures) (at-opened .opened .given .1) in
+    let p = found (at-opened .before .before .change-opening .ensures) (at-opened .opened .given .1) in
     let g = got (at-cases .cases .ensures .0) (at-listed .listed .given .1) in
     not-expected (c .before .before .no-change-opening .ensures) (c .enum-told3 .given .1) (no-change-unopened _ _ _ _ p (g .is))
 
@@ -69,8 +67,7 @@ returns-4 c =
     let at-listed = at-no-change-opening .before .before in
     let at-cases = at-listed .before .before .before .before .before .before .before .before in
     let at-opened = at-cases .before .before .before .before .before in
-    let at-change-opening = at-opened .before .before in
-    let p = found (at-change-opening .change-opening .ensures) (at-opened .opened .given .1) in
+    let p = found (at-opened .before .before .change-opening .ensures) (at-opened .opened .given .1) in
     let g = got (at-cases .cases .ensures .0) (at-listed .listed .given .1) in
     let q = found (at-no-change-opening .no-change-opening .ensures) (at-next .next .given .1) in
     let l = c .before .before .agreeing-list .ensures (g .tree) (told-listed _ _ _ _ _ _ (at-cases .cases .ensures .1) g) in
@@ -94,8 +91,7 @@ returns-5 c =
     let at-listed = at-no-change-opening .before .before in
     let at-cases = at-listed .before .before .before .before .before .before .before .before in
     let at-opened = at-cases .before .before .before .before .before in
-    let at-change-opening = at-opened .before .before in
-    let p = found (at-change-opening .change-opening .ensures) (at-opened .opened .given .1) in
+    let p = found (at-opened .before .before .change-opening .ensures) (at-opened .opened .given .1) in
     let g = got (at-cases .cases .ensures .0) (at-listed .listed .given .1) in
     let q = found (at-no-change-opening .no-change-opening .ensures) (at-next .next .given .1) in
     let l = at-agreeing-list .agreeing-list .ensures (g .tree) (told-listed _ _ _ _ _ _ (at-cases .cases .ensures .1) g) in

@@ -20,8 +20,7 @@ returns c = not-expected (c .before .before .rule-opening .ensures) (c .enum-tol
 returns-2 : tie.Need-returns-2
 returns-2 c =
     let at-opened = c .before .before .before .before in
-    let at-rule-opening = at-opened .before .before in
-    let p = found (at-rule-opening .rule-opening .ensures) (at-opened .opened .given .1) in
+    let p = found (at-opened .before .before .rule-opening .ensures) (at-opened .opened .given .1) in
     refuses (c .enum-told2 .given .1) (formula-fault _ _ _ _ p (is-fault _ _ _ (c .before .before .token-at .ensures) _ _ (c .enum-told2 .given .1)))
 
 change-requires : tie.Need-change-requires
@@ -45,8 +44,7 @@ returns-3 c =
     let at-read = at-if1 .before .before .before in
     let at-token-at = at-read .before .before in
     let at-opened = at-token-at .before .before in
-    let at-rule-opening = at-opened .before .before in
-    let p = found (at-rule-opening .rule-opening .ensures) (at-opened .opened .given .1) in
+    let p = found (at-opened .before .before .rule-opening .ensures) (at-opened .opened .given .1) in
     let t = found-token _ _ (at-token-at .token-at .ensures) (at-read .read .given .1) in
     reads-as (formula-change _ _ _ _ p (t .read) (same-kinds _ 21 (at-if1 .if1 .taken))) (at-change .change .ensures)
 

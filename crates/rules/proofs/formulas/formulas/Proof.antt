@@ -27,8 +27,7 @@ returns-2 c =
     let at-pair = c .before .before .before .before .before .before in
     let at-if1 = at-pair .before .before .before .before in
     let at-read = at-if1 .before .before .before in
-    let at-token-at = at-read .before .before in
-    let t = found-token _ _ (at-token-at .token-at .ensures) (at-read .read .given .1) in
+    let t = found-token _ _ (at-read .before .before .token-at .ensures) (at-read .read .given .1) in
     reads-as (formulas-pair _ _ _ _ (t .read) (same-kinds _ 27 (at-if1 .if1 .taken))) (at-pair .pair .ensures)
 
 returns-3 : tie.Need-returns-3

@@ -31,8 +31,7 @@ returns-2 : tie.Need-returns-2
 returns-2 c =
     let at-whole-expression = c .before .before .before .before in
     let at-opened = at-whole-expression .before .before .before in
-    let at-value-opening = at-opened .before .before in
-    let p = found (at-value-opening .value-opening .ensures) (at-opened .opened .given .1) in
+    let p = found (at-opened .before .before .value-opening .ensures) (at-opened .opened .given .1) in
     not-read (at-whole-expression .whole-expression .ensures) (c .enum-told2 .given .1) (value-refused _ _ _ _ p)
 
 returns-3 : tie.Need-returns-3
@@ -40,8 +39,7 @@ returns-3 c =
     let at-value = c .before .before .before .before in
     let at-whole-expression = at-value .before .before .before .before in
     let at-opened = at-whole-expression .before .before .before in
-    let at-value-opening = at-opened .before .before in
-    let p = found (at-value-opening .value-opening .ensures) (at-opened .opened .given .1) in
+    let p = found (at-opened .before .before .value-opening .ensures) (at-opened .opened .given .1) in
     let v = accepted-by (at-whole-expression .whole-expression .ensures) (at-value .value .given .1) in
     not-expected (c .before .before .function-closing .ensures) (c .enum-told3 .given .1) (value-unclosed _ _ _ _ p (v .is))
 
@@ -67,12 +65,11 @@ returns-4 c =
     let at-whole-expression = at-value .before .before .before .before in
     let at-opened = at-whole-expression .before .before .before in
     let at-value-opening = at-opened .before .before in
-    let start = at-value-opening .before .before .before .before .before in
     let p = found (at-value-opening .value-opening .ensures) (at-opened .opened .given .1) in
     let v = accepted-by (at-whole-expression .whole-expression .ensures) (at-value .value .given .1) in
     let q = found (at-function-closing .function-closing .ensures) (at-closed .closed .given .1) in
     writes (c .reached .ensures) (record {
-      tree = Program.function (start .args .w .id) (v .tree);
+      tree = Program.function (at-value-opening .before .before .before .before .before .args .w .id) (v .tree);
       is = function-accepted _ _ _ _ p (v .is) q;
       ended = function-length _ _ _ (v .count) (c .before .before .before .put-instruction .ensures .0);
       tells-it = refl;

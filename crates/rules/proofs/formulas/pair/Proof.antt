@@ -34,8 +34,7 @@ unfolding kindOf
 returns-2 c =
     let at-cases = c .before .before .before .before .before .before .before .before in
     let at-opened = at-cases .before .before .before .before .before in
-    let at-turned-opening = at-opened .before .before in
-    let p = found (at-turned-opening .turned-opening .ensures) (at-opened .opened .given .1) in
+    let p = found (at-opened .before .before .turned-opening .ensures) (at-opened .opened .given .1) in
     not-part (at-cases .cases .ensures .0) (c .enum-told2 .given .1) (ups-refused _ _ _ _ p)
 
 returns-3 : tie.Need-returns-3
@@ -44,8 +43,7 @@ returns-3 c =
     let at-risen = c .before .before .before .before in
     let at-cases = at-risen .before .before .before .before .before .before .before .before in
     let at-opened = at-cases .before .before .before .before .before in
-    let at-turned-opening = at-opened .before .before in
-    let p = found (at-turned-opening .turned-opening .ensures) (at-opened .opened .given .1) in
+    let p = found (at-opened .before .before .turned-opening .ensures) (at-opened .opened .given .1) in
     let g = got (at-cases .cases .ensures .0) (at-risen .risen .given .1) in
     not-expected (c .before .before .falling-opening .ensures) (c .enum-told3 .given .1) (falling-unopened _ _ _ _ p (g .is))
 
@@ -83,20 +81,17 @@ cases-requires-2 c κs =
 same-length-7 : tie.Need-same-length-7
 same-length-7 c =
     let at-cases2 = c .before .before .before .before .before .before .before .before in
-    let at-cases = at-cases2 .before .before .before .before .before .before .before .before .before .before .before .before .before .before .before .before .before .before in
-    at-cases2 .cases2 .kept .1 .1 .1 .1 .1 .1 .1 .0 ∙ at-cases .cases .kept .1 .1 .1 .1 .1 .1 .1 .0
+    at-cases2 .cases2 .kept .1 .1 .1 .1 .1 .1 .1 .0 ∙ (at-cases2 .before .before .before .before .before .before .before .before .before .before .before .before .before .before .before .before .before .before) .cases .kept .1 .1 .1 .1 .1 .1 .1 .0
 
 same-length-8 : tie.Need-same-length-8
 same-length-8 c =
     let at-cases2 = c .before .before .before .before .before .before .before .before in
-    let at-cases = at-cases2 .before .before .before .before .before .before .before .before .before .before .before .before .before .before .before .before .before .before in
-    at-cases2 .cases2 .kept .1 .1 .1 .1 .1 .1 .1 .1 .0 ∙ at-cases .cases .kept .1 .1 .1 .1 .1 .1 .1 .1 .0
+    at-cases2 .cases2 .kept .1 .1 .1 .1 .1 .1 .1 .1 .0 ∙ (at-cases2 .before .before .before .before .before .before .before .before .before .before .before .before .before .before .before .before .before .before) .cases .kept .1 .1 .1 .1 .1 .1 .1 .1 .0
 
 same-length-9 : tie.Need-same-length-9
 same-length-9 c =
     let at-cases2 = c .before .before .before .before .before .before .before .before in
-    let at-cases = at-cases2 .before .before .before .before .before .before .before .before .before .before .before .before .before .before .before .before .before .before in
-    at-cases2 .cases2 .kept .1 .1 .1 .1 .1 .1 .1 .1 .1 .1 .0 ∙ at-cases .cases .kept .1 .1 .1 .1 .1 .1 .1 .1 .1 .1 .0
+    at-cases2 .cases2 .kept .1 .1 .1 .1 .1 .1 .1 .1 .1 .1 .0 ∙ (at-cases2 .before .before .before .before .before .before .before .before .before .before .before .before .before .before .before .before .before .before) .cases .kept .1 .1 .1 .1 .1 .1 .1 .1 .1 .1 .0
 
 returns-4 : tie.Need-returns-4
 unfolding kindOf
@@ -107,8 +102,7 @@ returns-4 c =
     let at-risen = at-falling-opening .before .before in
     let at-cases = at-risen .before .before .before .before .before .before .before .before in
     let at-opened = at-cases .before .before .before .before .before in
-    let at-turned-opening = at-opened .before .before in
-    let p = found (at-turned-opening .turned-opening .ensures) (at-opened .opened .given .1) in
+    let p = found (at-opened .before .before .turned-opening .ensures) (at-opened .opened .given .1) in
     let g = got (at-cases .cases .ensures .0) (at-risen .risen .given .1) in
     let q = found (at-falling-opening .falling-opening .ensures) (at-next .next .given .1) in
     not-part (at-cases2 .cases2 .ensures .0) (c .enum-told4 .given .1) (downs-refused _ _ _ _ p (g .is) q (g .tells-it))
@@ -116,20 +110,17 @@ returns-4 c =
 same-length-10 : tie.Need-same-length-10
 same-length-10 c =
     let at-cases2 = c .before .before .before .before .before .before .before .before .before .before .before .before in
-    let at-cases = at-cases2 .before .before .before .before .before .before .before .before .before .before .before .before .before .before .before .before .before .before in
-    at-cases2 .cases2 .kept .1 .1 .1 .1 .1 .1 .1 .0 ∙ at-cases .cases .kept .1 .1 .1 .1 .1 .1 .1 .0
+    at-cases2 .cases2 .kept .1 .1 .1 .1 .1 .1 .1 .0 ∙ (at-cases2 .before .before .before .before .before .before .before .before .before .before .before .before .before .before .before .before .before .before) .cases .kept .1 .1 .1 .1 .1 .1 .1 .0
 
 same-length-11 : tie.Need-same-length-11
 same-length-11 c =
     let at-cases2 = c .before .before .before .before .before .before .before .before .before .before .before .before in
-    let at-cases = at-cases2 .before .before .before .before .before .before .before .before .before .before .before .before .before .before .before .before .before .before in
-    at-cases2 .cases2 .kept .1 .1 .1 .1 .1 .1 .1 .1 .0 ∙ at-cases .cases .kept .1 .1 .1 .1 .1 .1 .1 .1 .0
+    at-cases2 .cases2 .kept .1 .1 .1 .1 .1 .1 .1 .1 .0 ∙ (at-cases2 .before .before .before .before .before .before .before .before .before .before .before .before .before .before .before .before .before .before) .cases .kept .1 .1 .1 .1 .1 .1 .1 .1 .0
 
 same-length-12 : tie.Need-same-length-12
 same-length-12 c =
     let at-cases2 = c .before .before .before .before .before .before .before .before .before .before .before .before in
-    let at-cases = at-cases2 .before .before .before .before .before .before .before .before .before .before .before .before .before .before .before .before .before .before in
-    at-cases2 .cases2 .kept .1 .1 .1 .1 .1 .1 .1 .1 .1 .1 .0 ∙ at-cases .cases .kept .1 .1 .1 .1 .1 .1 .1 .1 .1 .1 .0
+    at-cases2 .cases2 .kept .1 .1 .1 .1 .1 .1 .1 .1 .1 .1 .0 ∙ (at-cases2 .before .before .before .before .before .before .before .before .before .before .before .before .before .before .before .before .before .before) .cases .kept .1 .1 .1 .1 .1 .1 .1 .1 .1 .1 .0
 
 returns-5 : tie.Need-returns-5
 unfolding kindOf
@@ -141,8 +132,7 @@ returns-5 c =
     let at-risen = at-falling-opening .before .before in
     let at-cases = at-risen .before .before .before .before .before .before .before .before in
     let at-opened = at-cases .before .before .before .before .before in
-    let at-turned-opening = at-opened .before .before in
-    let p = found (at-turned-opening .turned-opening .ensures) (at-opened .opened .given .1) in
+    let p = found (at-opened .before .before .turned-opening .ensures) (at-opened .opened .given .1) in
     let g = got (at-cases .cases .ensures .0) (at-risen .risen .given .1) in
     let q = found (at-falling-opening .falling-opening .ensures) (at-next .next .given .1) in
     let h = got (at-cases2 .cases2 .ensures .0) (at-fallen .fallen .given .1) in
@@ -173,20 +163,17 @@ put-instruction-requires c κs =
 same-length-13 : tie.Need-same-length-13
 same-length-13 c =
     let at-cases2 = c .before .before .before .before .before .before .before .before .before .before .before .before .before .before .before .before .before .before in
-    let at-cases = at-cases2 .before .before .before .before .before .before .before .before .before .before .before .before .before .before .before .before .before .before in
-    at-cases2 .cases2 .kept .1 .1 .1 .1 .1 .1 .1 .0 ∙ at-cases .cases .kept .1 .1 .1 .1 .1 .1 .1 .0
+    at-cases2 .cases2 .kept .1 .1 .1 .1 .1 .1 .1 .0 ∙ (at-cases2 .before .before .before .before .before .before .before .before .before .before .before .before .before .before .before .before .before .before) .cases .kept .1 .1 .1 .1 .1 .1 .1 .0
 
 same-length-14 : tie.Need-same-length-14
 same-length-14 c =
     let at-cases2 = c .before .before .before .before .before .before .before .before .before .before .before .before .before .before .before .before .before .before in
-    let at-cases = at-cases2 .before .before .before .before .before .before .before .before .before .before .before .before .before .before .before .before .before .before in
-    at-cases2 .cases2 .kept .1 .1 .1 .1 .1 .1 .1 .1 .0 ∙ at-cases .cases .kept .1 .1 .1 .1 .1 .1 .1 .1 .0
+    at-cases2 .cases2 .kept .1 .1 .1 .1 .1 .1 .1 .1 .0 ∙ (at-cases2 .before .before .before .before .before .before .before .before .before .before .before .before .before .before .before .before .before .before) .cases .kept .1 .1 .1 .1 .1 .1 .1 .1 .0
 
 same-length-15 : tie.Need-same-length-15
 same-length-15 c =
     let at-cases2 = c .before .before .before .before .before .before .before .before .before .before .before .before .before .before .before .before .before .before in
-    let at-cases = at-cases2 .before .before .before .before .before .before .before .before .before .before .before .before .before .before .before .before .before .before in
-    c .before .before .before .put-instruction .kept .0 ∙ (at-cases2 .cases2 .kept .1 .1 .1 .1 .1 .1 .1 .1 .1 .1 .0 ∙ at-cases .cases .kept .1 .1 .1 .1 .1 .1 .1 .1 .1 .1 .0)
+    c .before .before .before .put-instruction .kept .0 ∙ (at-cases2 .cases2 .kept .1 .1 .1 .1 .1 .1 .1 .1 .1 .1 .0 ∙ (at-cases2 .before .before .before .before .before .before .before .before .before .before .before .before .before .before .before .before .before .before) .cases .kept .1 .1 .1 .1 .1 .1 .1 .1 .1 .1 .0)
 
 returns-6 : tie.Need-returns-6
 unfolding kindOf

@@ -30,10 +30,7 @@ ruled-requires c κs = omega (arith, c .before .before .before .before .before .
 returns : tie.Need-returns
 returns c = own-timer _ _ _ _ _ _ _ _ (eq-eqb _ _ (c .before .before .before .before .before .before .if1 .taken)) (c .before .before .before .put-timer .ensures) (c .ruled .ensures .1)
 
-returns-2 : tie.Need-returns-2
-returns-2 c = other-timer _ _ _ _ _ _ _ _ (ne-eqb _ _ (c .if1 .left))
-
 pub timer-of-spec : {M : Type 1} → statement M
 timer-of-spec =
     tie.close
-    (tie.spec shared-slice-read-if1 cast-if1 mul-put-timer shared-slice-read-put-timer cast-put-timer put-timer-requires ruled-requires (λ c. search needs) returns returns-2)
+    (tie.spec shared-slice-read-if1 cast-if1 mul-put-timer shared-slice-read-put-timer cast-put-timer put-timer-requires ruled-requires (λ c. search needs) returns (λ c. other-timer _ _ _ _ _ _ _ _ (ne-eqb _ _ (c .if1 .left))))

@@ -11,9 +11,6 @@ Inv-loop watched limits first v out₀ to count known₀ t₀ id₀ out known t 
 abbrev μ-loop : tie.MeasureT-loop
 μ-loop watched limits first v out₀ to count known₀ t₀ id₀ out known t id = count - id
 
-loop-holds : tie.Need-loop-holds Inv-loop μ-loop
-loop-holds c = putting-first _ _ _ _ _ _ _ _
-
 timer-of-requires : tie.Need-timer-of-requires Inv-loop μ-loop
 timer-of-requires c κs =
     let p = c .before .before .before .before .before .before .pre in
@@ -35,4 +32,4 @@ returns : tie.Need-returns Inv-loop μ-loop
 returns c = putting-all _ _ _ _ _ _ _ _ (c .before .loop .inv) (c .loop-test .left)
 
 pub timers-of-spec : {M : Type 1} → statement M
-timers-of-spec = tie.close (tie.spec Inv-loop μ-loop loop-holds timer-of-requires add-id loop-less loop-again same-length returns)
+timers-of-spec = tie.close (tie.spec Inv-loop μ-loop (λ c. putting-first _ _ _ _ _ _ _ _) timer-of-requires add-id loop-less loop-again same-length returns)

@@ -47,17 +47,8 @@ same-length t c = c .before .loop .inv .3
 returns : (t : ℕ) → operand-lts.Need-returns (claims t) (operand-at t) operand.Post Inv-loop μ-loop
 returns t c = let i = c .before .loop .inv in ((i .0, i .1), spine-short _ _ _ _ _ _ _ _ _ (c .if1 .taken) (i .3) (i .4))
 
-shared-slice-read-op : (t : ℕ) → operand-lts.Need-shared-slice-read-op (claims t) (operand-at t) operand.Post Inv-loop μ-loop
-shared-slice-read-op t c = search needs
-
-add-behind : (t : ℕ) → operand-lts.Need-add-behind (claims t) (operand-at t) operand.Post Inv-loop μ-loop
-add-behind t c = search needs
-
 leaf-requires : (t : ℕ) → operand-lts.Need-leaf-requires (claims t) (operand-at t) operand.Post Inv-loop μ-loop
 leaf-requires t c κs = (c .before .before .before .before .before .before .before .before .before .before .pre .1 .0, omega (arith, c .before .before .before .if1 .left))
-
-opens-before-requires : (t : ℕ) → operand-lts.Need-opens-before-requires (claims t) (operand-at t) operand.Post Inv-loop μ-loop
-opens-before-requires t c κs = search needs
 
 same-length-2 : (t : ℕ) → operand-lts.Need-same-length-2 (claims t) (operand-at t) operand.Post Inv-loop μ-loop
 same-length-2 t c = c .before .before .opens-before .ensures .same ∙ c .before .before .before .before .before .before .leaf .ensures .1 .same ∙ c .before .before .before .before .before .before .before .before .before .before .before .loop .inv .3
@@ -65,29 +56,14 @@ same-length-2 t c = c .before .before .opens-before .ensures .same ∙ c .before
 returns-2 : (t : ℕ) → operand-lts.Need-returns-2 (claims t) (operand-at t) operand.Post Inv-loop μ-loop
 returns-2 t c = let i = c .before .before .before .before .before .before .before .before .before .before .before .loop .inv in let o = c .before .before .before .before .before .before .leaf .ensures in ((omega (arith, i .0, o .0 .0), o .0 .1), spine-leaf _ _ (c .before .before .before .before .before .before .before .before .before .before .before .before .before .before .before .before .before .args .at) _ _ _ _ _ _ _ _ _ _ _ (c .before .before .before .before .before .before .before .before .if2 .taken) (i .3) (i .4) (o .1) (c .before .before .opens-before .ensures))
 
-byte-before-requires : (t : ℕ) → operand-lts.Need-byte-before-requires (claims t) (operand-at t) operand.Post Inv-loop μ-loop
-byte-before-requires t c κs = search needs
-
 operand-requires : (t : ℕ) → operand-lts.Need-operand-requires (claims t) (operand-at t) operand.Post Inv-loop μ-loop
 operand-requires t c κs = (omega (arith, c .before .before .before .before .before .before .before .if1 .left), (c .before .before .before .before .before .before .before .before .before .before .before .before .before .before .pre .1 .0, omega (arith, c .before .before .before .before .before .before .before .if1 .left)))
-
-is-prefix-requires : (t : ℕ) → operand-lts.Need-is-prefix-requires (claims t) (operand-at t) operand.Post Inv-loop μ-loop
-is-prefix-requires t c κs = search needs
-
-prefix-before-requires : (t : ℕ) → operand-lts.Need-prefix-before-requires (claims t) (operand-at t) operand.Post Inv-loop μ-loop
-prefix-before-requires t c κs = search needs
-
-opens-before-requires-2 : (t : ℕ) → operand-lts.Need-opens-before-requires-2 (claims t) (operand-at t) operand.Post Inv-loop μ-loop
-opens-before-requires-2 t c κs = search needs
 
 same-length-3 : (t : ℕ) → operand-lts.Need-same-length-3 (claims t) (operand-at t) operand.Post Inv-loop μ-loop
 same-length-3 t c = c .before .before .opens-before2 .ensures .same ∙ c .before .before .before .before .before .before .prefix-before .ensures .same ∙ c .before .before .before .before .before .before .before .before .before .before .before .before .operand .ensures .1 .same ∙ c .before .before .before .before .before .before .before .before .before .before .before .before .before .before .before .before .byte-before .ensures .same ∙ c .before .before .before .before .before .before .before .before .before .before .before .before .before .before .before .before .before .before .before .before .before .loop .inv .3
 
 returns-3 : (t : ℕ) → operand-lts.Need-returns-3 (claims t) (operand-at t) operand.Post Inv-loop μ-loop
 returns-3 t c = let i = c .before .before .before .before .before .before .before .before .before .before .before .before .before .before .before .before .before .before .before .before .before .loop .inv in let o = c .before .before .before .before .before .before .before .before .before .before .before .before .operand .ensures in ((omega (arith, i .0, o .0 .0), o .0 .1), spine-prefix _ _ (c .before .before .before .before .before .before .before .before .before .before .before .before .before .before .before .before .before .before .before .before .before .before .before .before .before .before .before .args .at) _ _ _ _ _ _ _ _ _ _ _ _ _ _ _ (c .before .before .before .before .before .before .before .before .before .before .before .before .before .before .before .before .before .before .if2 .left) (sym (c .before .before .before .before .before .before .before .before .before .is-prefix .ensures) ∙ c .before .before .before .before .before .before .before .before .if3 .taken) (i .3) (i .4) (c .before .before .before .before .before .before .before .before .before .before .before .before .before .before .before .before .byte-before .ensures) (o .1) (c .before .before .before .before .before .before .prefix-before .ensures) (c .before .before .opens-before2 .ensures))
-
-sign-before-requires : (t : ℕ) → operand-lts.Need-sign-before-requires (claims t) (operand-at t) operand.Post Inv-loop μ-loop
-sign-before-requires t c κs = search needs
 
 add-pending : (t : ℕ) → operand-lts.Need-add-pending (claims t) (operand-at t) operand.Post Inv-loop μ-loop
 add-pending t c = let i = c .before .before .before .before .before .before .before .before .before .before .before .before .before .before .before .before .before .loop .inv in omega (arith, i .1, i .2, c .before .before .before .before .before .before .before .before .before .before .before .before .before .before .before .before .if1 .left)
@@ -99,4 +75,4 @@ loop-again : (t : ℕ) → operand-lts.Need-loop-again (claims t) (operand-at t)
 loop-again t c = let i = c .before .before .before .before .before .before .before .before .before .before .before .before .before .before .before .before .before .loop .inv in let o = c .before .before .before .before .before .before .before .before .operand .ensures in (omega (arith, i .0, o .0 .0), o .0 .1, omega (arith, i .2, o .0 .0), c .before .before .sign-before .ensures .same ∙ o .1 .same ∙ c .before .before .before .before .before .before .before .before .before .before .before .before .byte-before .ensures .same ∙ i .3, spine-goes _ _ (c .before .before .before .before .before .before .before .before .before .before .before .before .before .before .before .before .before .before .before .before .before .before .before .args .at) _ _ _ _ _ _ _ _ _ _ _ _ _ (c .before .before .before .before .before .before .before .before .before .before .before .before .before .before .if2 .left) (sym (c .before .before .before .before .before .is-prefix .ensures) ∙ c .before .before .before .before .if3 .left) (i .4) (c .before .before .before .before .before .before .before .before .before .before .before .before .byte-before .ensures) (o .1) (c .before .before .sign-before .ensures))
 
 pub +operand-spec : {M : Type 1} → statement M
-+operand-spec = close μ-operand λ t. operand-lts.spec (claims t) (operand-at t) operand.Post Inv-loop μ-loop (loop-holds t) (same-length t) (returns t) (shared-slice-read-op t) (add-behind t) (leaf-requires t) (opens-before-requires t) (same-length-2 t) (returns-2 t) (byte-before-requires t) (operand-requires t) (is-prefix-requires t) (prefix-before-requires t) (opens-before-requires-2 t) (same-length-3 t) (returns-3 t) (sign-before-requires t) (add-pending t) (loop-less t) (loop-again t)
++operand-spec = close μ-operand λ t. operand-lts.spec (claims t) (operand-at t) operand.Post Inv-loop μ-loop (loop-holds t) (same-length t) (returns t) (λ c. search needs) (λ c. search needs) (leaf-requires t) (λ c κs. search needs) (same-length-2 t) (returns-2 t) (λ c κs. search needs) (operand-requires t) (λ c κs. search needs) (λ c κs. search needs) (λ c κs. search needs) (same-length-3 t) (returns-3 t) (λ c κs. search needs) (add-pending t) (loop-less t) (loop-again t)

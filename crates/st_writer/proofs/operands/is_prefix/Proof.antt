@@ -13,6 +13,4 @@ unfolding isPrefix
 returns-2 c = rw (ne-eqb _ _ (c .if1 .left))
 
 pub is-prefix-spec : {M : Type 1} → statement M
-is-prefix-spec =
-    tie.close
-    (tie.spec returns returns-2)
+is-prefix-spec = tie.close (tie.spec returns returns-2)

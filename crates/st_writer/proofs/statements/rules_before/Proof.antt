@@ -14,9 +14,6 @@ Inv-loop text starts ends count code out₀ to a₀ place₀ out a place = (leng
 abbrev μ-loop : tie.MeasureT-loop
 μ-loop text starts ends count code out₀ to a₀ place₀ out a place = length code - a
 
-loop-holds : tie.Need-loop-holds Inv-loop μ-loop
-loop-holds c = (refl, rules-start _ _ _ _)
-
 rule-requires : tie.Need-rule-requires Inv-loop μ-loop
 rule-requires c κs = (c .before .before .before .before .before .before .before .before .pre, c .before .loop-test .taken)
 
@@ -35,4 +32,4 @@ returns c = λ p t z e. rules-end _ _ _ _ _ _ _ (c .loop-test .left) (c .before 
 pub rules-before-spec : {M : Type 1} → statement M
 rules-before-spec =
     tie.close
-    (tie.spec Inv-loop μ-loop loop-holds rule-requires loop-less loop-again same-length returns)
+    (tie.spec Inv-loop μ-loop (λ c. (refl, rules-start _ _ _ _)) rule-requires loop-less loop-again same-length returns)

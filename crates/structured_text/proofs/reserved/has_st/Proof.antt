@@ -16,12 +16,6 @@ Inv-loop text starts ends count timers i₀ i = noneStWord (drop i (tableNames t
 abbrev μ-loop : tie.MeasureT-loop
 μ-loop text starts ends count timers i₀ i = count - i
 
-returns : tie.Need-returns Inv-loop μ-loop
-returns c = λ ts e. timed-lacks ts _ (c .if1 .taken) e
-
-loop-holds : tie.Need-loop-holds Inv-loop μ-loop
-loop-holds c = refl
-
 mul-s : tie.Need-mul-s Inv-loop μ-loop
 mul-s c = omega (arith, c .before .before .before .before .before .before .good .1 .0 .1, c .before .before .before .before .before .before .pre .in-starts)
 
@@ -40,9 +34,6 @@ returns-2 c = λ ts e. untimed-has ts (c .before .before .before .before .before
 add-i : tie.Need-add-i Inv-loop μ-loop
 add-i c = omega (arith, c .before .before .before .before .before .before .before .before .before .before .before .pre .in-starts, c .before .before .before .before .before .before .before .before .before .before .before .good .1 .0 .1)
 
-loop-less : tie.Need-loop-less Inv-loop μ-loop
-loop-less c = omega arith
-
 loop-again : tie.Need-loop-again Inv-loop μ-loop
 loop-again c = none-next _ (c .before .before .before .before .before .before .before .before .before .before .before .pre) _ (c .before .before .before .before .before .loop-test .taken) (ap isStWord (sym (c .before .before .name .ensures)) ∙ sym (c .before .is-st-word .ensures) ∙ c .if2 .left) ∙ c .before .before .before .before .before .before .loop .inv
 
@@ -52,5 +43,5 @@ returns-3 c = λ ts e. untimed-has ts (c .before .before .if1 .left) e (none-lef
 pub has-st-spec : {M : Type 1} → statement M
 has-st-spec =
     tie.close
-    (tie.spec Inv-loop μ-loop returns loop-holds mul-s shared-slice-read-s mul-e shared-slice-read-e (λ c κs. search needs) (λ c κs. search needs)
-    returns-2 add-i loop-less loop-again returns-3)
+    (tie.spec Inv-loop μ-loop (λ c. λ ts e. timed-lacks ts _ (c .if1 .taken) e) (λ c. refl) mul-s shared-slice-read-s mul-e shared-slice-read-e (λ c κs. search needs) (λ c κs. search needs)
+    returns-2 add-i (λ c. omega arith) loop-again returns-3)

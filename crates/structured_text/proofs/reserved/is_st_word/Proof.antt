@@ -2,7 +2,7 @@
 use borrow.Author.Needs.{needs}
 use mathlib.Core.Path.{sym, _∙_}
 use Rattle.st_program.specs.Written.{isStWord}
-use Rattle.structured_text.proofs.Walk.{or-none}
+use mathlib.Core.Bool.{or-false}
 use Rattle.structured_text.proofs.reserved.is_st_word.Statement.{statement}
 use Rattle.structured_text.proofs.reserved.is_st_word.Tie as tie
 
@@ -32,7 +32,7 @@ returns-6 c = rw (sym (c .before .before .before .before .before .before .before
 
 returns-7 : tie.Need-returns-7
 unfolding isStWord
-returns-7 c = rw (sym (c .before .before .before .before .before .before .before .before .before .before .before .before .before .before .before .before .before .before .same-name .ensures) ∙ c .before .before .before .before .before .before .before .before .before .before .before .before .before .before .before .before .before .if1 .left, sym (c .before .before .before .before .before .before .before .before .before .before .before .before .before .before .before .same-name2 .ensures) ∙ c .before .before .before .before .before .before .before .before .before .before .before .before .before .before .if2 .left, sym (c .before .before .before .before .before .before .before .before .before .before .before .before .same-name3 .ensures) ∙ c .before .before .before .before .before .before .before .before .before .before .before .if3 .left, sym (c .before .before .before .before .before .before .before .before .before .same-name4 .ensures) ∙ c .before .before .before .before .before .before .before .before .if4 .left, sym (c .before .before .before .before .before .before .same-name5 .ensures) ∙ c .before .before .before .before .before .if5 .left, sym (c .before .before .before .same-name6 .ensures) ∙ c .before .before .if6 .left) (c .same-name7 .ensures ∙ sym (or-none _))
+returns-7 c = rw (sym (c .before .before .before .before .before .before .before .before .before .before .before .before .before .before .before .before .before .before .same-name .ensures) ∙ c .before .before .before .before .before .before .before .before .before .before .before .before .before .before .before .before .before .if1 .left, sym (c .before .before .before .before .before .before .before .before .before .before .before .before .before .before .before .same-name2 .ensures) ∙ c .before .before .before .before .before .before .before .before .before .before .before .before .before .before .if2 .left, sym (c .before .before .before .before .before .before .before .before .before .before .before .before .same-name3 .ensures) ∙ c .before .before .before .before .before .before .before .before .before .before .before .if3 .left, sym (c .before .before .before .before .before .before .before .before .before .same-name4 .ensures) ∙ c .before .before .before .before .before .before .before .before .if4 .left, sym (c .before .before .before .before .before .before .same-name5 .ensures) ∙ c .before .before .before .before .before .if5 .left, sym (c .before .before .before .same-name6 .ensures) ∙ c .before .before .if6 .left) (c .same-name7 .ensures ∙ sym (or-false _))
 
 pub is-st-word-spec : {M : Type 1} → statement M
 is-st-word-spec =

@@ -17,9 +17,6 @@ Inv-loop text at₀ named₀ at named = Walking text named at
 abbrev μ-loop : tie.MeasureT-loop
 μ-loop text at₀ named₀ at named = length text - at
 
-loop-holds : tie.Need-loop-holds Inv-loop μ-loop
-loop-holds c = walking _
-
 returns : tie.Need-returns Inv-loop μ-loop
 returns c = walk-fault (c .before .before .before .loop .inv) _ (is-fault _ _ _ (c .before .before .token-at .ensures) _ _ (c .enum-told .given .1) .0)
 
@@ -57,4 +54,4 @@ loop-again c =
 pub reserved-place-spec : {M : Type 1} → statement M
 reserved-place-spec =
     tie.close
-    (tie.spec Inv-loop μ-loop loop-holds (λ c κs. search needs) (λ c. search needs) (λ c. search needs) returns returns-2 is-outside-requires returns-3 declares-name-requires loop-less loop-again)
+    (tie.spec Inv-loop μ-loop (λ c. walking _) (λ c κs. search needs) (λ c. search needs) (λ c. search needs) returns returns-2 is-outside-requires returns-3 declares-name-requires loop-less loop-again)

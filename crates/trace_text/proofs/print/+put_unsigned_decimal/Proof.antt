@@ -26,37 +26,10 @@ below t = and 1 kinds.ps (falls 1 kinds.ps _<_ μ t) reads.Pre
 abbrev claims : ℕ → lts.Claims
 claims t = (put-byte-reads.Asked, put-byte-reads.Learnt, below t, reads.Post)
 
-add-put-byte : (t : ℕ) → lts.Need-add-put-byte (claims t) (at t) reads.Post
-add-put-byte t c = omega arith
-
-cast-put-byte : (t : ℕ) → lts.Need-cast-put-byte (claims t) (at t) reads.Post
-cast-put-byte t c = omega arith
-
-put-byte-requires : (t : ℕ) → lts.Need-put-byte-requires (claims t) (at t) reads.Post
-put-byte-requires t c κs = tt
-
-same-length : (t : ℕ) → lts.Need-same-length (claims t) (at t) reads.Post
-same-length t c = search needs
-
 returns : (t : ℕ) → lts.Need-returns (claims t) (at t) reads.Post
 returns t c =
     let k = c .before .before .before .before in
     rw (decimal-small (k .before .before .args .n) (k .if1 .taken)) (c .before .before .put-byte .ensures)
-
-put-unsigned-decimal-requires : (t : ℕ) → lts.Need-put-unsigned-decimal-requires (claims t) (at t) reads.Post
-put-unsigned-decimal-requires t c κs = omega arith
-
-add-put-byte-2 : (t : ℕ) → lts.Need-add-put-byte-2 (claims t) (at t) reads.Post
-add-put-byte-2 t c = omega arith
-
-cast-put-byte-2 : (t : ℕ) → lts.Need-cast-put-byte-2 (claims t) (at t) reads.Post
-cast-put-byte-2 t c = omega arith
-
-put-byte-requires-2 : (t : ℕ) → lts.Need-put-byte-requires-2 (claims t) (at t) reads.Post
-put-byte-requires-2 t c κs = tt
-
-same-length-2 : (t : ℕ) → lts.Need-same-length-2 (claims t) (at t) reads.Post
-same-length-2 t c = search needs
 
 returns-2 : (t : ℕ) → lts.Need-returns-2 (claims t) (at t) reads.Post
 returns-2 t c =
@@ -67,14 +40,5 @@ returns-2 t c =
 pub +put-unsigned-decimal-spec : {M : Type 1} → statement M
 +put-unsigned-decimal-spec =
     close μ λ t. lts.spec (claims t) (at t) reads.Post
-    (add-put-byte t)
-    (cast-put-byte t)
-    (put-byte-requires t)
-    (same-length t)
-    (returns t)
-    (put-unsigned-decimal-requires t)
-    (add-put-byte-2 t)
-    (cast-put-byte-2 t)
-    (put-byte-requires-2 t)
-    (same-length-2 t)
-    (returns-2 t)
+    (λ c. omega arith) (λ c. omega arith) (λ c κs. tt) (λ c. search needs) (returns t) (λ c κs. omega arith) (λ c. omega arith)
+    (λ c. omega arith) (λ c κs. tt) (λ c. search needs) (returns-2 t)

@@ -16,17 +16,8 @@ Inv-loop out₀ at word place₀ i₀ out place i = Putting out₀ place₀ word
 abbrev μ-loop : tie.MeasureT-loop
 μ-loop out₀ at word place₀ i₀ out place i = length word - i
 
-clip-requires : tie.Need-clip-requires Inv-loop μ-loop
-clip-requires c κs = tt
-
 loop-holds : tie.Need-loop-holds Inv-loop μ-loop
 loop-holds c = let e = c .clip .ensures in putting _ _ _ (omega arith)
-
-put-byte-requires : tie.Need-put-byte-requires Inv-loop μ-loop
-put-byte-requires c κs = tt
-
-loop-less : tie.Need-loop-less Inv-loop μ-loop
-loop-less c = omega arith
 
 loop-again : tie.Need-loop-again Inv-loop μ-loop
 loop-again c =
@@ -44,5 +35,5 @@ returns c = put-clip (rw (c .before .before .clip .ensures) at (putting-done (c 
 pub put-bytes-spec : {M : Type 1} → statement M
 put-bytes-spec =
     tie.close
-    (tie.spec Inv-loop μ-loop clip-requires loop-holds (λ c. search needs) put-byte-requires (λ c. search needs) loop-less loop-again
+    (tie.spec Inv-loop μ-loop (λ c κs. tt) loop-holds (λ c. search needs) (λ c κs. tt) (λ c. search needs) (λ c. omega arith) loop-again
     same-length returns)

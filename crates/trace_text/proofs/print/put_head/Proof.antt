@@ -10,8 +10,7 @@ returns : tie.Need-returns
 returns c =
     let n = c .before .before .before .before .before .before .before in
     let w = n .before .before .before .before in
-    let start = w .before .before .before .before .before .before .before in
-    let a = start .args in
+    let a = w .before .before .before .before .before .before .before .args in
     put-as
     (put-then (put-then (w .put-bytes .ensures) (n .put-names .ensures)) (c .before .before .put-bytes2 .ensures))
     (head-is (tableNames (a .text .now) (a .starts .now) (a .ends .now) (a .count)))

@@ -18,9 +18,6 @@ Inv-loop out₀ at text start end place₀ i₀ out place i = Putting out₀ pla
 abbrev μ-loop : tie.MeasureT-loop
 μ-loop out₀ at text start end place₀ i₀ out place i = end - i
 
-put-byte-requires : tie.Need-put-byte-requires Inv-loop μ-loop
-put-byte-requires c κs = tt
-
 loop-holds : tie.Need-loop-holds Inv-loop μ-loop
 loop-holds c = putting _ _ _ (omega (arith, put-inside (c .before .before .put-byte .ensures), put-length (c .before .before .put-byte .ensures)))
 
@@ -32,12 +29,6 @@ returns c =
     let at-put-byte = c .before .before .before .before .before in
     let start = at-put-byte .before .before .before .before in
     put-then (at-put-byte .put-byte .ensures) (putting-done (c .before .before .loop .inv) (part-out (start .args .text .now) (c .before .before .loop .i) (start .args .end) (c .if1 .taken)))
-
-put-byte-requires-2 : tie.Need-put-byte-requires-2 Inv-loop μ-loop
-put-byte-requires-2 c κs = tt
-
-loop-less : tie.Need-loop-less Inv-loop μ-loop
-loop-less c = omega arith
 
 loop-again : tie.Need-loop-again Inv-loop μ-loop
 loop-again c =
@@ -58,5 +49,5 @@ returns-2 c =
 pub put-name-spec : {M : Type 1} → statement M
 put-name-spec =
     tie.close
-    (tie.spec Inv-loop μ-loop put-byte-requires loop-holds same-length returns (λ c. search needs) put-byte-requires-2 (λ c. search needs)
-    loop-less loop-again same-length-2 returns-2)
+    (tie.spec Inv-loop μ-loop (λ c κs. tt) loop-holds same-length returns (λ c. search needs) (λ c κs. tt) (λ c. search needs)
+    (λ c. omega arith) loop-again same-length-2 returns-2)

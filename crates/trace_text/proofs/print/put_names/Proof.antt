@@ -21,9 +21,6 @@ Inv-loop out₀ at text starts ends count place₀ i₀ out place i =
 abbrev μ-loop : tie.MeasureT-loop
 μ-loop out₀ at text starts ends count place₀ i₀ out place i = count - i
 
-clip-requires : tie.Need-clip-requires Inv-loop μ-loop
-clip-requires c κs = tt
-
 loop-holds : tie.Need-loop-holds Inv-loop μ-loop
 loop-holds c =
     let start = c .before .before .before .before .before in
@@ -41,12 +38,6 @@ same-length-2 c = c .before .before .before .loop .inv .same
 
 returns-2 : tie.Need-returns-2 Inv-loop μ-loop
 returns-2 c = put-clip (rw (c .before .before .before .before .clip .ensures) at (putting-done (c .before .before .before .loop .inv) (rw (drop-of-length-le (c .before .before .before .before .before .before .before .before .before .args .ends .now) (c .if2 .taken), no-ends))))
-
-put-name-requires : tie.Need-put-name-requires Inv-loop μ-loop
-put-name-requires c κs = tt
-
-loop-less : tie.Need-loop-less Inv-loop μ-loop
-loop-less c = omega arith
 
 loop-again : tie.Need-loop-again Inv-loop μ-loop
 loop-again c =
@@ -68,5 +59,5 @@ returns-3 c =
 pub put-names-spec : {M : Type 1} → statement M
 put-names-spec =
     tie.close
-    (tie.spec Inv-loop μ-loop clip-requires loop-holds same-length returns same-length-2 returns-2 (λ c. search needs) (λ c. search needs)
-    (λ c. search needs) (λ c. search needs) put-name-requires (λ c. search needs) loop-less loop-again same-length-3 returns-3)
+    (tie.spec Inv-loop μ-loop (λ c κs. tt) loop-holds same-length returns same-length-2 returns-2 (λ c. search needs) (λ c. search needs)
+    (λ c. search needs) (λ c. search needs) (λ c κs. tt) (λ c. search needs) (λ c. omega arith) loop-again same-length-3 returns-3)

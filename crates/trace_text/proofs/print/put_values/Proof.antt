@@ -26,22 +26,12 @@ Inv-loop out₀ at values place₀ i₀ out place i =
 abbrev μ-loop : tie.MeasureT-loop
 μ-loop out₀ at values place₀ i₀ out place i = length values - i
 
-clip-requires : tie.Need-clip-requires Inv-loop μ-loop
-clip-requires c κs = tt
-
 loop-holds : tie.Need-loop-holds Inv-loop μ-loop
 loop-holds c = let e = c .clip .ensures in (putting _ _ _ (omega arith), omega arith, omega arith)
 
-put-byte-requires : tie.Need-put-byte-requires Inv-loop μ-loop
-put-byte-requires c κs = tt
-
-put-decimal-requires : tie.Need-put-decimal-requires Inv-loop μ-loop
-put-decimal-requires c κs = tt
-
 loop-less : tie.Need-loop-less Inv-loop μ-loop
 loop-less c =
-    let at-test = c .before .before .before .before .before .before .before .before .before in
-    turn-less _ _ (at-test .loop-test .taken)
+    turn-less _ _ (c .before .before .before .before .before .before .before .before .before .loop-test .taken)
 
 loop-again : tie.Need-loop-again Inv-loop μ-loop
 loop-again c =
@@ -70,5 +60,5 @@ returns c =
 pub put-values-spec : {M : Type 1} → statement M
 put-values-spec =
     tie.close
-    (tie.spec Inv-loop μ-loop clip-requires loop-holds (λ c. search needs) (λ c. search needs) put-byte-requires put-decimal-requires
+    (tie.spec Inv-loop μ-loop (λ c κs. tt) loop-holds (λ c. search needs) (λ c. search needs) (λ c κs. tt) (λ c κs. tt)
     (λ c. search needs) loop-less loop-again same-length returns)

@@ -17,9 +17,6 @@ Inv-loop image state₀ names cells₀ last part out₀ line₀ number₀ taken�
 abbrev μ-loop : tie.MeasureT-loop
 μ-loop image state₀ names cells₀ last part out₀ line₀ number₀ taken₀ put₀ state cells out line number taken put = length part - taken
 
-loop-holds : tie.Need-loop-holds Inv-loop μ-loop
-loop-holds c = (taking _ _ _, refl, refl)
-
 sub-if1 : tie.Need-sub-if1 Inv-loop μ-loop
 sub-if1 c = c .before .loop .inv .0 .inside
 
@@ -63,4 +60,4 @@ returns-2 : tie.Need-returns-2 Inv-loop μ-loop
 returns-2 c = rows-taken _ _ (c .before .loop .inv .0) (c .before .before .before .before .before .pre .2) (taking-all (c .before .loop .inv .0) (c .loop-test .left))
 
 pub feed-rows-spec : {M : Type 1} → statement M
-feed-rows-spec = tie.close (tie.spec Inv-loop μ-loop loop-holds sub-if1 same-length same-length-2 same-length-3 returns shared-slice-read-trace-byte trace-byte-requires add-taken loop-less loop-again same-length-4 same-length-5 same-length-6 returns-2)
+feed-rows-spec = tie.close (tie.spec Inv-loop μ-loop (λ c. (taking _ _ _, refl, refl)) sub-if1 same-length same-length-2 same-length-3 returns shared-slice-read-trace-byte trace-byte-requires add-taken loop-less loop-again same-length-4 same-length-5 same-length-6 returns-2)
