@@ -146,7 +146,7 @@ fn advance_one(
             let Advanced::Kept(k) = advance::push(w) else {
                 return Moved::Broken;
             };
-            onward(k, next, machine::step(low, high, prev, cur, vals, m, 1, n))
+            onward(k, next, machine::act(low, high, prev, cur, vals, m, 1, n))
         }
         2 => {
             let leb128::Unsigned::Number(n, next) = operand(code, at) else {
@@ -155,7 +155,7 @@ fn advance_one(
             let Advanced::Kept(k) = advance::current(w, n) else {
                 return Moved::Broken;
             };
-            onward(k, next, machine::step(low, high, prev, cur, vals, m, 2, n))
+            onward(k, next, machine::act(low, high, prev, cur, vals, m, 2, n))
         }
         3 => {
             let leb128::Unsigned::Number(n, next) = operand(code, at) else {
@@ -164,7 +164,7 @@ fn advance_one(
             let Advanced::Kept(k) = advance::previous(w, n) else {
                 return Moved::Broken;
             };
-            onward(k, next, machine::step(low, high, prev, cur, vals, m, 3, n))
+            onward(k, next, machine::act(low, high, prev, cur, vals, m, 3, n))
         }
         4..=8 => {
             let Advanced::Kept(k) = advance::join(w, advance::NUMBER, advance::NUMBER) else {
@@ -176,11 +176,7 @@ fn advance_one(
             let Advanced::Kept(k) = advance::keep(w, advance::NUMBER) else {
                 return Moved::Broken;
             };
-            onward(
-                k,
-                behind,
-                machine::step(low, high, prev, cur, vals, m, 9, 0),
-            )
+            onward(k, behind, machine::act(low, high, prev, cur, vals, m, 9, 0))
         }
         10..=15 => {
             let Advanced::Kept(k) = advance::test(w, advance::NUMBER) else {
@@ -195,7 +191,7 @@ fn advance_one(
             onward(
                 k,
                 behind,
-                machine::step(low, high, prev, cur, vals, m, 16, 0),
+                machine::act(low, high, prev, cur, vals, m, 16, 0),
             )
         }
         17 => {
@@ -205,7 +201,7 @@ fn advance_one(
             onward(
                 k,
                 behind,
-                machine::step(low, high, prev, cur, vals, m, 17, 0),
+                machine::act(low, high, prev, cur, vals, m, 17, 0),
             )
         }
         18 => {
@@ -215,7 +211,7 @@ fn advance_one(
             onward(
                 k,
                 behind,
-                machine::step(low, high, prev, cur, vals, m, 18, 0),
+                machine::act(low, high, prev, cur, vals, m, 18, 0),
             )
         }
         19 => {
@@ -225,7 +221,7 @@ fn advance_one(
             onward(
                 k,
                 behind,
-                machine::step(low, high, prev, cur, vals, m, 19, 0),
+                machine::act(low, high, prev, cur, vals, m, 19, 0),
             )
         }
         20 => {
@@ -235,7 +231,7 @@ fn advance_one(
             let Advanced::Kept(k) = advance::pick(w, advance::CHANGING, n) else {
                 return Moved::Broken;
             };
-            onward(k, next, machine::step(low, high, prev, cur, vals, m, 20, n))
+            onward(k, next, machine::act(low, high, prev, cur, vals, m, 20, n))
         }
         21 => {
             let leb128::Unsigned::Number(n, next) = operand(code, at) else {
@@ -244,7 +240,7 @@ fn advance_one(
             let Advanced::Kept(k) = advance::assign(w, n) else {
                 return Moved::Broken;
             };
-            onward(k, next, machine::step(low, high, prev, cur, vals, m, 21, n))
+            onward(k, next, machine::act(low, high, prev, cur, vals, m, 21, n))
         }
         22 => {
             let leb128::Unsigned::Number(n, next) = operand(code, at) else {
@@ -253,7 +249,7 @@ fn advance_one(
             let Advanced::Kept(k) = advance::settle(w, n) else {
                 return Moved::Broken;
             };
-            onward(k, next, machine::step(low, high, prev, cur, vals, m, 22, n))
+            onward(k, next, machine::act(low, high, prev, cur, vals, m, 22, n))
         }
         24 => {
             let leb128::Unsigned::Number(n, next) = operand(code, at) else {
@@ -262,7 +258,7 @@ fn advance_one(
             let Advanced::Kept(k) = advance::pick(w, advance::RISING, n) else {
                 return Moved::Broken;
             };
-            onward(k, next, machine::step(low, high, prev, cur, vals, m, 24, n))
+            onward(k, next, machine::act(low, high, prev, cur, vals, m, 24, n))
         }
         25 => {
             let leb128::Unsigned::Number(n, next) = operand(code, at) else {
@@ -271,7 +267,7 @@ fn advance_one(
             let Advanced::Kept(k) = advance::pick(w, advance::FALLING, n) else {
                 return Moved::Broken;
             };
-            onward(k, next, machine::step(low, high, prev, cur, vals, m, 25, n))
+            onward(k, next, machine::act(low, high, prev, cur, vals, m, 25, n))
         }
         _ => Moved::Broken,
     }

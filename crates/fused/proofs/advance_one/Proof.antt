@@ -26,8 +26,8 @@ returns-2 c =
     let num = (sym (c .before .before .before .before .before .before .operand .ensures) ∙ ap unsignedRead (c .before .before .before .before .n .given .1)) in
     breaks (c .before .before .before .before .before .before .before .before .before .before .before .args .code .now) (c .before .before .before .before .before .before .before .before .before .before .before .args .b) (c .before .before .before .before .before .before .before .before .before .before .before .pre .1 .0) (instructionOf 1 (c .before .before .before .before .n .given .0 .0)) (c .before .before .before .before .n .given .0 .1 .0) (with-operand (c .before .before .before .before .before .before .before .before .before .before .before .args .code .now) (c .before .before .before .before .before .before .before .before .before .before .before .args .b) (c .before .before .before .before .before .before .before .before .before .before .before .pre .1 .0) 1 (c .before .before .before .before .before .before .before .match .keys1) refl (c .before .before .before .before .n .given .0 .0) (c .before .before .before .before .n .given .0 .1 .0) num) (c .before .before .push .result) (c .enum-told2 .given .1) (c .before .before .push .ensures .0 ∙ sym (constant-is (c .before .before .before .before .n .given .0 .0) (knownOf (c .before .before .before .before .before .before .before .before .before .before .before .args .b .walk)) (number-within _ _ _ _ num .operand)))
 
-step-requires : tie.Need-step-requires
-step-requires c κs = (record { few = c .before .before .before .before .before .before .before .before .before .before .before .before .before .before .pre .0 .small .few-held; room = c .before .before .before .before .before .before .before .before .before .before .before .before .before .before .pre .0 .room }, (c .before .before .before .before .before .before .before .before .before .before .before .before .before .before .pre .0 .named, number-within _ _ _ _ (sym (c .before .before .before .before .before .before .before .before .before .operand .ensures) ∙ ap unsignedRead (c .before .before .before .before .before .before .before .n .given .1)) .operand))
+act-requires : tie.Need-act-requires
+act-requires c κs = (record { few = c .before .before .before .before .before .before .before .before .before .before .before .before .before .before .pre .0 .small .few-held; room = c .before .before .before .before .before .before .before .before .before .before .before .before .before .before .pre .0 .room }, (c .before .before .before .before .before .before .before .before .before .before .before .before .before .before .pre .0 .named, number-within _ _ _ _ (sym (c .before .before .before .before .before .before .before .before .before .operand .ensures) ∙ ap unsignedRead (c .before .before .before .before .before .before .before .n .given .1)) .operand))
 
 -- code 2
 returns-3 : tie.Need-returns-3
@@ -40,8 +40,8 @@ returns-4 c =
     let num = (sym (c .before .before .before .before .before .before .operand2 .ensures) ∙ ap unsignedRead (c .before .before .before .before .n2 .given .1)) in
     breaks (c .before .before .before .before .before .before .before .before .before .before .before .args .code .now) (c .before .before .before .before .before .before .before .before .before .before .before .args .b) (c .before .before .before .before .before .before .before .before .before .before .before .pre .1 .0) (instructionOf 2 (c .before .before .before .before .n2 .given .0 .0)) (c .before .before .before .before .n2 .given .0 .1 .0) (with-operand (c .before .before .before .before .before .before .before .before .before .before .before .args .code .now) (c .before .before .before .before .before .before .before .before .before .before .before .args .b) (c .before .before .before .before .before .before .before .before .before .before .before .pre .1 .0) 2 (c .before .before .before .before .before .before .before .match .keys2) refl (c .before .before .before .before .n2 .given .0 .0) (c .before .before .before .before .n2 .given .0 .1 .0) num) (c .before .before .current .result) (c .enum-told4 .given .1) (c .before .before .current .ensures .0)
 
-step-requires-2 : tie.Need-step-requires-2
-step-requires-2 c κs = (record { few = c .before .before .before .before .before .before .before .before .before .before .before .before .before .before .pre .0 .small .few-held; room = c .before .before .before .before .before .before .before .before .before .before .before .before .before .before .pre .0 .room }, (c .before .before .before .before .before .before .before .before .before .before .before .before .before .before .pre .0 .named, number-within _ _ _ _ (sym (c .before .before .before .before .before .before .before .before .before .operand2 .ensures) ∙ ap unsignedRead (c .before .before .before .before .before .before .before .n2 .given .1)) .operand))
+act-requires-2 : tie.Need-act-requires-2
+act-requires-2 c κs = (record { few = c .before .before .before .before .before .before .before .before .before .before .before .before .before .before .pre .0 .small .few-held; room = c .before .before .before .before .before .before .before .before .before .before .before .before .before .before .pre .0 .room }, (c .before .before .before .before .before .before .before .before .before .before .before .before .before .before .pre .0 .named, number-within _ _ _ _ (sym (c .before .before .before .before .before .before .before .before .before .operand2 .ensures) ∙ ap unsignedRead (c .before .before .before .before .before .before .before .n2 .given .1)) .operand))
 
 -- code 3
 returns-5 : tie.Need-returns-5
@@ -54,8 +54,8 @@ returns-6 c =
     let num = (sym (c .before .before .before .before .before .before .operand3 .ensures) ∙ ap unsignedRead (c .before .before .before .before .n3 .given .1)) in
     breaks (c .before .before .before .before .before .before .before .before .before .before .before .args .code .now) (c .before .before .before .before .before .before .before .before .before .before .before .args .b) (c .before .before .before .before .before .before .before .before .before .before .before .pre .1 .0) (instructionOf 3 (c .before .before .before .before .n3 .given .0 .0)) (c .before .before .before .before .n3 .given .0 .1 .0) (with-operand (c .before .before .before .before .before .before .before .before .before .before .before .args .code .now) (c .before .before .before .before .before .before .before .before .before .before .before .args .b) (c .before .before .before .before .before .before .before .before .before .before .before .pre .1 .0) 3 (c .before .before .before .before .before .before .before .match .keys3) refl (c .before .before .before .before .n3 .given .0 .0) (c .before .before .before .before .n3 .given .0 .1 .0) num) (c .before .before .previous .result) (c .enum-told6 .given .1) (c .before .before .previous .ensures .0)
 
-step-requires-3 : tie.Need-step-requires-3
-step-requires-3 c κs = (record { few = c .before .before .before .before .before .before .before .before .before .before .before .before .before .before .pre .0 .small .few-held; room = c .before .before .before .before .before .before .before .before .before .before .before .before .before .before .pre .0 .room }, (c .before .before .before .before .before .before .before .before .before .before .before .before .before .before .pre .0 .named, number-within _ _ _ _ (sym (c .before .before .before .before .before .before .before .before .before .operand3 .ensures) ∙ ap unsignedRead (c .before .before .before .before .before .before .before .n3 .given .1)) .operand))
+act-requires-3 : tie.Need-act-requires-3
+act-requires-3 c κs = (record { few = c .before .before .before .before .before .before .before .before .before .before .before .before .before .before .pre .0 .small .few-held; room = c .before .before .before .before .before .before .before .before .before .before .before .before .before .before .pre .0 .room }, (c .before .before .before .before .before .before .before .before .before .before .before .before .before .before .pre .0 .named, number-within _ _ _ _ (sym (c .before .before .before .before .before .before .before .before .before .operand3 .ensures) ∙ ap unsignedRead (c .before .before .before .before .before .before .before .n3 .given .1)) .operand))
 
 returns-7 : tie.Need-returns-7
 unfolding instructionOf hasOperand
@@ -91,8 +91,8 @@ returns-13 c =
     let num = (sym (c .before .before .before .before .before .before .operand4 .ensures) ∙ ap unsignedRead (c .before .before .before .before .n4 .given .1)) in
     breaks (c .before .before .before .before .before .before .before .before .before .before .before .args .code .now) (c .before .before .before .before .before .before .before .before .before .before .before .args .b) (c .before .before .before .before .before .before .before .before .before .before .before .pre .1 .0) (instructionOf 20 (c .before .before .before .before .n4 .given .0 .0)) (c .before .before .before .before .n4 .given .0 .1 .0) (with-operand (c .before .before .before .before .before .before .before .before .before .before .before .args .code .now) (c .before .before .before .before .before .before .before .before .before .before .before .args .b) (c .before .before .before .before .before .before .before .before .before .before .before .pre .1 .0) 20 (c .before .before .before .before .before .before .before .match .keys9) refl (c .before .before .before .before .n4 .given .0 .0) (c .before .before .before .before .n4 .given .0 .1 .0) num) (c .before .before .pick .result) (c .enum-told13 .given .1) (c .before .before .pick .ensures .0)
 
-step-requires-9 : tie.Need-step-requires-9
-step-requires-9 c κs = (record { few = c .before .before .before .before .before .before .before .before .before .before .before .before .before .before .pre .0 .small .few-held; room = c .before .before .before .before .before .before .before .before .before .before .before .before .before .before .pre .0 .room }, (c .before .before .before .before .before .before .before .before .before .before .before .before .before .before .pre .0 .named, number-within _ _ _ _ (sym (c .before .before .before .before .before .before .before .before .before .operand4 .ensures) ∙ ap unsignedRead (c .before .before .before .before .before .before .before .n4 .given .1)) .operand))
+act-requires-9 : tie.Need-act-requires-9
+act-requires-9 c κs = (record { few = c .before .before .before .before .before .before .before .before .before .before .before .before .before .before .pre .0 .small .few-held; room = c .before .before .before .before .before .before .before .before .before .before .before .before .before .before .pre .0 .room }, (c .before .before .before .before .before .before .before .before .before .before .before .before .before .before .pre .0 .named, number-within _ _ _ _ (sym (c .before .before .before .before .before .before .before .before .before .operand4 .ensures) ∙ ap unsignedRead (c .before .before .before .before .before .before .before .n4 .given .1)) .operand))
 
 -- code 21
 returns-14 : tie.Need-returns-14
@@ -105,8 +105,8 @@ returns-15 c =
     let num = (sym (c .before .before .before .before .before .before .operand5 .ensures) ∙ ap unsignedRead (c .before .before .before .before .n5 .given .1)) in
     breaks (c .before .before .before .before .before .before .before .before .before .before .before .args .code .now) (c .before .before .before .before .before .before .before .before .before .before .before .args .b) (c .before .before .before .before .before .before .before .before .before .before .before .pre .1 .0) (instructionOf 21 (c .before .before .before .before .n5 .given .0 .0)) (c .before .before .before .before .n5 .given .0 .1 .0) (with-operand (c .before .before .before .before .before .before .before .before .before .before .before .args .code .now) (c .before .before .before .before .before .before .before .before .before .before .before .args .b) (c .before .before .before .before .before .before .before .before .before .before .before .pre .1 .0) 21 (c .before .before .before .before .before .before .before .match .keys10) refl (c .before .before .before .before .n5 .given .0 .0) (c .before .before .before .before .n5 .given .0 .1 .0) num) (c .before .before .assign .result) (c .enum-told15 .given .1) (c .before .before .assign .ensures .0)
 
-step-requires-10 : tie.Need-step-requires-10
-step-requires-10 c κs = (record { few = c .before .before .before .before .before .before .before .before .before .before .before .before .before .before .pre .0 .small .few-held; room = c .before .before .before .before .before .before .before .before .before .before .before .before .before .before .pre .0 .room }, (c .before .before .before .before .before .before .before .before .before .before .before .before .before .before .pre .0 .named, number-within _ _ _ _ (sym (c .before .before .before .before .before .before .before .before .before .operand5 .ensures) ∙ ap unsignedRead (c .before .before .before .before .before .before .before .n5 .given .1)) .operand))
+act-requires-10 : tie.Need-act-requires-10
+act-requires-10 c κs = (record { few = c .before .before .before .before .before .before .before .before .before .before .before .before .before .before .pre .0 .small .few-held; room = c .before .before .before .before .before .before .before .before .before .before .before .before .before .before .pre .0 .room }, (c .before .before .before .before .before .before .before .before .before .before .before .before .before .before .pre .0 .named, number-within _ _ _ _ (sym (c .before .before .before .before .before .before .before .before .before .operand5 .ensures) ∙ ap unsignedRead (c .before .before .before .before .before .before .before .n5 .given .1)) .operand))
 
 -- code 22
 returns-16 : tie.Need-returns-16
@@ -122,8 +122,8 @@ returns-17 c =
     let num = (sym (c .before .before .before .before .before .before .operand6 .ensures) ∙ ap unsignedRead (c .before .before .before .before .n6 .given .1)) in
     breaks (c .before .before .before .before .before .before .before .before .before .before .before .args .code .now) (c .before .before .before .before .before .before .before .before .before .before .before .args .b) (c .before .before .before .before .before .before .before .before .before .before .before .pre .1 .0) (instructionOf 22 (c .before .before .before .before .n6 .given .0 .0)) (c .before .before .before .before .n6 .given .0 .1 .0) (with-operand (c .before .before .before .before .before .before .before .before .before .before .before .args .code .now) (c .before .before .before .before .before .before .before .before .before .before .before .args .b) (c .before .before .before .before .before .before .before .before .before .before .before .pre .1 .0) 22 (c .before .before .before .before .before .before .before .match .keys11) refl (c .before .before .before .before .n6 .given .0 .0) (c .before .before .before .before .n6 .given .0 .1 .0) num) (c .before .before .settle .result) (c .enum-told17 .given .1) (c .before .before .settle .ensures .0)
 
-step-requires-11 : tie.Need-step-requires-11
-step-requires-11 c κs = (record { few = c .before .before .before .before .before .before .before .before .before .before .before .before .before .before .pre .0 .small .few-held; room = c .before .before .before .before .before .before .before .before .before .before .before .before .before .before .pre .0 .room }, (c .before .before .before .before .before .before .before .before .before .before .before .before .before .before .pre .0 .named, number-within _ _ _ _ (sym (c .before .before .before .before .before .before .before .before .before .operand6 .ensures) ∙ ap unsignedRead (c .before .before .before .before .before .before .before .n6 .given .1)) .operand))
+act-requires-11 : tie.Need-act-requires-11
+act-requires-11 c κs = (record { few = c .before .before .before .before .before .before .before .before .before .before .before .before .before .before .pre .0 .small .few-held; room = c .before .before .before .before .before .before .before .before .before .before .before .before .before .before .pre .0 .room }, (c .before .before .before .before .before .before .before .before .before .before .before .before .before .before .pre .0 .named, number-within _ _ _ _ (sym (c .before .before .before .before .before .before .before .before .before .operand6 .ensures) ∙ ap unsignedRead (c .before .before .before .before .before .before .before .n6 .given .1)) .operand))
 
 -- code 24
 returns-18 : tie.Need-returns-18
@@ -139,8 +139,8 @@ returns-19 c =
     let num = (sym (c .before .before .before .before .before .before .operand7 .ensures) ∙ ap unsignedRead (c .before .before .before .before .n7 .given .1)) in
     breaks (c .before .before .before .before .before .before .before .before .before .before .before .args .code .now) (c .before .before .before .before .before .before .before .before .before .before .before .args .b) (c .before .before .before .before .before .before .before .before .before .before .before .pre .1 .0) (instructionOf 24 (c .before .before .before .before .n7 .given .0 .0)) (c .before .before .before .before .n7 .given .0 .1 .0) (with-operand (c .before .before .before .before .before .before .before .before .before .before .before .args .code .now) (c .before .before .before .before .before .before .before .before .before .before .before .args .b) (c .before .before .before .before .before .before .before .before .before .before .before .pre .1 .0) 24 (c .before .before .before .before .before .before .before .match .keys12) refl (c .before .before .before .before .n7 .given .0 .0) (c .before .before .before .before .n7 .given .0 .1 .0) num) (c .before .before .pick2 .result) (c .enum-told19 .given .1) (c .before .before .pick2 .ensures .0)
 
-step-requires-12 : tie.Need-step-requires-12
-step-requires-12 c κs = (record { few = c .before .before .before .before .before .before .before .before .before .before .before .before .before .before .pre .0 .small .few-held; room = c .before .before .before .before .before .before .before .before .before .before .before .before .before .before .pre .0 .room }, (c .before .before .before .before .before .before .before .before .before .before .before .before .before .before .pre .0 .named, number-within _ _ _ _ (sym (c .before .before .before .before .before .before .before .before .before .operand7 .ensures) ∙ ap unsignedRead (c .before .before .before .before .before .before .before .n7 .given .1)) .operand))
+act-requires-12 : tie.Need-act-requires-12
+act-requires-12 c κs = (record { few = c .before .before .before .before .before .before .before .before .before .before .before .before .before .before .pre .0 .small .few-held; room = c .before .before .before .before .before .before .before .before .before .before .before .before .before .before .pre .0 .room }, (c .before .before .before .before .before .before .before .before .before .before .before .before .before .before .pre .0 .named, number-within _ _ _ _ (sym (c .before .before .before .before .before .before .before .before .before .operand7 .ensures) ∙ ap unsignedRead (c .before .before .before .before .before .before .before .n7 .given .1)) .operand))
 
 -- code 25
 returns-20 : tie.Need-returns-20
@@ -156,8 +156,8 @@ returns-21 c =
     let num = (sym (c .before .before .before .before .before .before .operand8 .ensures) ∙ ap unsignedRead (c .before .before .before .before .n8 .given .1)) in
     breaks (c .before .before .before .before .before .before .before .before .before .before .before .args .code .now) (c .before .before .before .before .before .before .before .before .before .before .before .args .b) (c .before .before .before .before .before .before .before .before .before .before .before .pre .1 .0) (instructionOf 25 (c .before .before .before .before .n8 .given .0 .0)) (c .before .before .before .before .n8 .given .0 .1 .0) (with-operand (c .before .before .before .before .before .before .before .before .before .before .before .args .code .now) (c .before .before .before .before .before .before .before .before .before .before .before .args .b) (c .before .before .before .before .before .before .before .before .before .before .before .pre .1 .0) 25 (c .before .before .before .before .before .before .before .match .keys13) refl (c .before .before .before .before .n8 .given .0 .0) (c .before .before .before .before .n8 .given .0 .1 .0) num) (c .before .before .pick3 .result) (c .enum-told21 .given .1) (c .before .before .pick3 .ensures .0)
 
-step-requires-13 : tie.Need-step-requires-13
-step-requires-13 c κs = (record { few = c .before .before .before .before .before .before .before .before .before .before .before .before .before .before .pre .0 .small .few-held; room = c .before .before .before .before .before .before .before .before .before .before .before .before .before .before .pre .0 .room }, (c .before .before .before .before .before .before .before .before .before .before .before .before .before .before .pre .0 .named, number-within _ _ _ _ (sym (c .before .before .before .before .before .before .before .before .before .operand8 .ensures) ∙ ap unsignedRead (c .before .before .before .before .before .before .before .n8 .given .1)) .operand))
+act-requires-13 : tie.Need-act-requires-13
+act-requires-13 c κs = (record { few = c .before .before .before .before .before .before .before .before .before .before .before .before .before .before .pre .0 .small .few-held; room = c .before .before .before .before .before .before .before .before .before .before .before .before .before .before .pre .0 .room }, (c .before .before .before .before .before .before .before .before .before .before .before .before .before .before .pre .0 .named, number-within _ _ _ _ (sym (c .before .before .before .before .before .before .before .before .before .operand8 .ensures) ∙ ap unsignedRead (c .before .before .before .before .before .before .before .n8 .given .1)) .operand))
 
 returns-22 : tie.Need-returns-22
 returns-22 c =
@@ -176,81 +176,81 @@ returns-24 : tie.Need-returns-24
 unfolding instructionOf hasOperand
 returns-24 c =
     let num = (sym (c .before .before .before .before .before .before .before .before .before .before .before .before .before .operand .ensures) ∙ ap unsignedRead (c .before .before .before .before .before .before .before .before .before .before .before .n .given .1)) in
-    arrives (c .before .before .before .before .before .before .before .before .before .before .before .before .before .before .before .before .before .before .pre .0) (c .before .before .before .before .before .before .before .before .before .before .before .before .before .before .before .before .before .before .pre .1 .1) (c .before .before .before .before .before .before .before .before .before .before .before .before .before .before .before .before .before .before .args .code .now) (c .before .before .before .before .before .before .before .before .before .before .before .n .given .0 .1 .0) (c .before .before .before .before .before .before .before .k .given .0 .0) _ _ (instructionOf 1 (c .before .before .before .before .before .before .before .before .before .before .before .n .given .0 .0)) (with-operand (c .before .before .before .before .before .before .before .before .before .before .before .before .before .before .before .before .before .before .args .code .now) (c .before .before .before .before .before .before .before .before .before .before .before .before .before .before .before .before .before .before .args .b) (c .before .before .before .before .before .before .before .before .before .before .before .before .before .before .before .before .before .before .pre .1 .0) 1 (c .before .before .before .before .before .before .before .before .before .before .before .before .before .before .match .keys1) refl (c .before .before .before .before .before .before .before .before .before .before .before .n .given .0 .0) (c .before .before .before .before .before .before .before .before .before .before .before .n .given .0 .1 .0) num) (number-within _ _ _ _ num .inside) (c .before .before .before .before .before .before .before .before .before .push .result) (c .before .before .before .before .before .before .before .k .given .1) (c .before .before .before .before .before .before .before .before .before .push .ensures .0 ∙ sym (constant-is (c .before .before .before .before .before .before .before .before .before .before .before .n .given .0 .0) (knownOf (c .before .before .before .before .before .before .before .before .before .before .before .before .before .before .before .before .before .before .args .b .walk)) (number-within _ _ _ _ num .operand))) (c .before .before .before .before .before .before .before .before .before .push .ensures .1) (c .before .before .before .step .result) (λ ns q. c .before .before .before .step .ensures .0 ns q) (c .onward .result) (c .onward .ensures)
+    arrives (c .before .before .before .before .before .before .before .before .before .before .before .before .before .before .before .before .before .before .pre .0) (c .before .before .before .before .before .before .before .before .before .before .before .before .before .before .before .before .before .before .pre .1 .1) (c .before .before .before .before .before .before .before .before .before .before .before .before .before .before .before .before .before .before .args .code .now) (c .before .before .before .before .before .before .before .before .before .before .before .n .given .0 .1 .0) (c .before .before .before .before .before .before .before .k .given .0 .0) _ _ (instructionOf 1 (c .before .before .before .before .before .before .before .before .before .before .before .n .given .0 .0)) (with-operand (c .before .before .before .before .before .before .before .before .before .before .before .before .before .before .before .before .before .before .args .code .now) (c .before .before .before .before .before .before .before .before .before .before .before .before .before .before .before .before .before .before .args .b) (c .before .before .before .before .before .before .before .before .before .before .before .before .before .before .before .before .before .before .pre .1 .0) 1 (c .before .before .before .before .before .before .before .before .before .before .before .before .before .before .match .keys1) refl (c .before .before .before .before .before .before .before .before .before .before .before .n .given .0 .0) (c .before .before .before .before .before .before .before .before .before .before .before .n .given .0 .1 .0) num) (number-within _ _ _ _ num .inside) (c .before .before .before .before .before .before .before .before .before .push .result) (c .before .before .before .before .before .before .before .k .given .1) (c .before .before .before .before .before .before .before .before .before .push .ensures .0 ∙ sym (constant-is (c .before .before .before .before .before .before .before .before .before .before .before .n .given .0 .0) (knownOf (c .before .before .before .before .before .before .before .before .before .before .before .before .before .before .before .before .before .before .args .b .walk)) (number-within _ _ _ _ num .operand))) (c .before .before .before .before .before .before .before .before .before .push .ensures .1) (c .before .before .before .act .result) (λ ns q. c .before .before .before .act .ensures .0 ns q) (c .onward .result) (c .onward .ensures)
 
 -- code 2
 returns-25 : tie.Need-returns-25
 unfolding instructionOf hasOperand
 returns-25 c =
     let num = (sym (c .before .before .before .before .before .before .before .before .before .before .before .before .before .operand2 .ensures) ∙ ap unsignedRead (c .before .before .before .before .before .before .before .before .before .before .before .n2 .given .1)) in
-    arrives (c .before .before .before .before .before .before .before .before .before .before .before .before .before .before .before .before .before .before .pre .0) (c .before .before .before .before .before .before .before .before .before .before .before .before .before .before .before .before .before .before .pre .1 .1) (c .before .before .before .before .before .before .before .before .before .before .before .before .before .before .before .before .before .before .args .code .now) (c .before .before .before .before .before .before .before .before .before .before .before .n2 .given .0 .1 .0) (c .before .before .before .before .before .before .before .k2 .given .0 .0) _ _ (instructionOf 2 (c .before .before .before .before .before .before .before .before .before .before .before .n2 .given .0 .0)) (with-operand (c .before .before .before .before .before .before .before .before .before .before .before .before .before .before .before .before .before .before .args .code .now) (c .before .before .before .before .before .before .before .before .before .before .before .before .before .before .before .before .before .before .args .b) (c .before .before .before .before .before .before .before .before .before .before .before .before .before .before .before .before .before .before .pre .1 .0) 2 (c .before .before .before .before .before .before .before .before .before .before .before .before .before .before .match .keys2) refl (c .before .before .before .before .before .before .before .before .before .before .before .n2 .given .0 .0) (c .before .before .before .before .before .before .before .before .before .before .before .n2 .given .0 .1 .0) num) (number-within _ _ _ _ num .inside) (c .before .before .before .before .before .before .before .before .before .current .result) (c .before .before .before .before .before .before .before .k2 .given .1) (c .before .before .before .before .before .before .before .before .before .current .ensures .0) (c .before .before .before .before .before .before .before .before .before .current .ensures .1) (c .before .before .before .step2 .result) (λ ns q. c .before .before .before .step2 .ensures .0 ns q) (c .onward2 .result) (c .onward2 .ensures)
+    arrives (c .before .before .before .before .before .before .before .before .before .before .before .before .before .before .before .before .before .before .pre .0) (c .before .before .before .before .before .before .before .before .before .before .before .before .before .before .before .before .before .before .pre .1 .1) (c .before .before .before .before .before .before .before .before .before .before .before .before .before .before .before .before .before .before .args .code .now) (c .before .before .before .before .before .before .before .before .before .before .before .n2 .given .0 .1 .0) (c .before .before .before .before .before .before .before .k2 .given .0 .0) _ _ (instructionOf 2 (c .before .before .before .before .before .before .before .before .before .before .before .n2 .given .0 .0)) (with-operand (c .before .before .before .before .before .before .before .before .before .before .before .before .before .before .before .before .before .before .args .code .now) (c .before .before .before .before .before .before .before .before .before .before .before .before .before .before .before .before .before .before .args .b) (c .before .before .before .before .before .before .before .before .before .before .before .before .before .before .before .before .before .before .pre .1 .0) 2 (c .before .before .before .before .before .before .before .before .before .before .before .before .before .before .match .keys2) refl (c .before .before .before .before .before .before .before .before .before .before .before .n2 .given .0 .0) (c .before .before .before .before .before .before .before .before .before .before .before .n2 .given .0 .1 .0) num) (number-within _ _ _ _ num .inside) (c .before .before .before .before .before .before .before .before .before .current .result) (c .before .before .before .before .before .before .before .k2 .given .1) (c .before .before .before .before .before .before .before .before .before .current .ensures .0) (c .before .before .before .before .before .before .before .before .before .current .ensures .1) (c .before .before .before .act2 .result) (λ ns q. c .before .before .before .act2 .ensures .0 ns q) (c .onward2 .result) (c .onward2 .ensures)
 
 -- code 3
 returns-26 : tie.Need-returns-26
 unfolding instructionOf hasOperand
 returns-26 c =
     let num = (sym (c .before .before .before .before .before .before .before .before .before .before .before .before .before .operand3 .ensures) ∙ ap unsignedRead (c .before .before .before .before .before .before .before .before .before .before .before .n3 .given .1)) in
-    arrives (c .before .before .before .before .before .before .before .before .before .before .before .before .before .before .before .before .before .before .pre .0) (c .before .before .before .before .before .before .before .before .before .before .before .before .before .before .before .before .before .before .pre .1 .1) (c .before .before .before .before .before .before .before .before .before .before .before .before .before .before .before .before .before .before .args .code .now) (c .before .before .before .before .before .before .before .before .before .before .before .n3 .given .0 .1 .0) (c .before .before .before .before .before .before .before .k3 .given .0 .0) _ _ (instructionOf 3 (c .before .before .before .before .before .before .before .before .before .before .before .n3 .given .0 .0)) (with-operand (c .before .before .before .before .before .before .before .before .before .before .before .before .before .before .before .before .before .before .args .code .now) (c .before .before .before .before .before .before .before .before .before .before .before .before .before .before .before .before .before .before .args .b) (c .before .before .before .before .before .before .before .before .before .before .before .before .before .before .before .before .before .before .pre .1 .0) 3 (c .before .before .before .before .before .before .before .before .before .before .before .before .before .before .match .keys3) refl (c .before .before .before .before .before .before .before .before .before .before .before .n3 .given .0 .0) (c .before .before .before .before .before .before .before .before .before .before .before .n3 .given .0 .1 .0) num) (number-within _ _ _ _ num .inside) (c .before .before .before .before .before .before .before .before .before .previous .result) (c .before .before .before .before .before .before .before .k3 .given .1) (c .before .before .before .before .before .before .before .before .before .previous .ensures .0) (c .before .before .before .before .before .before .before .before .before .previous .ensures .1) (c .before .before .before .step3 .result) (λ ns q. c .before .before .before .step3 .ensures .0 ns q) (c .onward3 .result) (c .onward3 .ensures)
+    arrives (c .before .before .before .before .before .before .before .before .before .before .before .before .before .before .before .before .before .before .pre .0) (c .before .before .before .before .before .before .before .before .before .before .before .before .before .before .before .before .before .before .pre .1 .1) (c .before .before .before .before .before .before .before .before .before .before .before .before .before .before .before .before .before .before .args .code .now) (c .before .before .before .before .before .before .before .before .before .before .before .n3 .given .0 .1 .0) (c .before .before .before .before .before .before .before .k3 .given .0 .0) _ _ (instructionOf 3 (c .before .before .before .before .before .before .before .before .before .before .before .n3 .given .0 .0)) (with-operand (c .before .before .before .before .before .before .before .before .before .before .before .before .before .before .before .before .before .before .args .code .now) (c .before .before .before .before .before .before .before .before .before .before .before .before .before .before .before .before .before .before .args .b) (c .before .before .before .before .before .before .before .before .before .before .before .before .before .before .before .before .before .before .pre .1 .0) 3 (c .before .before .before .before .before .before .before .before .before .before .before .before .before .before .match .keys3) refl (c .before .before .before .before .before .before .before .before .before .before .before .n3 .given .0 .0) (c .before .before .before .before .before .before .before .before .before .before .before .n3 .given .0 .1 .0) num) (number-within _ _ _ _ num .inside) (c .before .before .before .before .before .before .before .before .before .previous .result) (c .before .before .before .before .before .before .before .k3 .given .1) (c .before .before .before .before .before .before .before .before .before .previous .ensures .0) (c .before .before .before .before .before .before .before .before .before .previous .ensures .1) (c .before .before .before .act3 .result) (λ ns q. c .before .before .before .act3 .ensures .0 ns q) (c .onward3 .result) (c .onward3 .ensures)
 
 -- code 9
 returns-27 : tie.Need-returns-27
 unfolding instructionOf hasOperand
-returns-27 c = arrives (c .before .before .before .before .before .before .before .before .before .before .before .before .before .before .pre .0) (c .before .before .before .before .before .before .before .before .before .before .before .before .before .before .pre .1 .1) (c .before .before .before .before .before .before .before .before .before .before .before .before .before .before .args .code .now) (c .before .before .before .before .before .before .before .before .before .before .before .before .before .before .args .b .at + 1) (c .before .before .before .before .before .before .before .k4 .given .0 .0) _ _ (instructionOf 9 0) (alone (c .before .before .before .before .before .before .before .before .before .before .before .before .before .before .args .code .now) (c .before .before .before .before .before .before .before .before .before .before .before .before .before .before .args .b) (c .before .before .before .before .before .before .before .before .before .before .before .before .before .before .pre .1 .0) 9 (c .before .before .before .before .before .before .before .before .before .before .match .keys4) refl) (omega (arith, c .before .before .before .before .before .before .before .before .before .before .before .before .before .before .pre .1 .0)) (c .before .before .before .before .before .before .before .before .before .keep .result) (c .before .before .before .before .before .before .before .k4 .given .1) (c .before .before .before .before .before .before .before .before .before .keep .ensures .0 ∙ sym (negate-is (knownOf (c .before .before .before .before .before .before .before .before .before .before .before .before .before .before .args .b .walk)))) (c .before .before .before .before .before .before .before .before .before .keep .ensures .1) (c .before .before .before .step4 .result) (λ ns q. c .before .before .before .step4 .ensures .0 ns q) (c .onward4 .result) (c .onward4 .ensures)
+returns-27 c = arrives (c .before .before .before .before .before .before .before .before .before .before .before .before .before .before .pre .0) (c .before .before .before .before .before .before .before .before .before .before .before .before .before .before .pre .1 .1) (c .before .before .before .before .before .before .before .before .before .before .before .before .before .before .args .code .now) (c .before .before .before .before .before .before .before .before .before .before .before .before .before .before .args .b .at + 1) (c .before .before .before .before .before .before .before .k4 .given .0 .0) _ _ (instructionOf 9 0) (alone (c .before .before .before .before .before .before .before .before .before .before .before .before .before .before .args .code .now) (c .before .before .before .before .before .before .before .before .before .before .before .before .before .before .args .b) (c .before .before .before .before .before .before .before .before .before .before .before .before .before .before .pre .1 .0) 9 (c .before .before .before .before .before .before .before .before .before .before .match .keys4) refl) (omega (arith, c .before .before .before .before .before .before .before .before .before .before .before .before .before .before .pre .1 .0)) (c .before .before .before .before .before .before .before .before .before .keep .result) (c .before .before .before .before .before .before .before .k4 .given .1) (c .before .before .before .before .before .before .before .before .before .keep .ensures .0 ∙ sym (negate-is (knownOf (c .before .before .before .before .before .before .before .before .before .before .before .before .before .before .args .b .walk)))) (c .before .before .before .before .before .before .before .before .before .keep .ensures .1) (c .before .before .before .act4 .result) (λ ns q. c .before .before .before .act4 .ensures .0 ns q) (c .onward4 .result) (c .onward4 .ensures)
 
 -- code 16
 returns-28 : tie.Need-returns-28
 unfolding instructionOf hasOperand
-returns-28 c = arrives (c .before .before .before .before .before .before .before .before .before .before .before .before .before .before .pre .0) (c .before .before .before .before .before .before .before .before .before .before .before .before .before .before .pre .1 .1) (c .before .before .before .before .before .before .before .before .before .before .before .before .before .before .args .code .now) (c .before .before .before .before .before .before .before .before .before .before .before .before .before .before .args .b .at + 1) (c .before .before .before .before .before .before .before .k5 .given .0 .0) _ _ (instructionOf 16 0) (alone (c .before .before .before .before .before .before .before .before .before .before .before .before .before .before .args .code .now) (c .before .before .before .before .before .before .before .before .before .before .before .before .before .before .args .b) (c .before .before .before .before .before .before .before .before .before .before .before .before .before .before .pre .1 .0) 16 (c .before .before .before .before .before .before .before .before .before .before .match .keys5) refl) (omega (arith, c .before .before .before .before .before .before .before .before .before .before .before .before .before .before .pre .1 .0)) (c .before .before .before .before .before .before .before .before .before .invert .result) (c .before .before .before .before .before .before .before .k5 .given .1) (c .before .before .before .before .before .before .before .before .before .invert .ensures .0 ∙ sym (negated-is (knownOf (c .before .before .before .before .before .before .before .before .before .before .before .before .before .before .args .b .walk)))) (c .before .before .before .before .before .before .before .before .before .invert .ensures .1) (c .before .before .before .step5 .result) (λ ns q. c .before .before .before .step5 .ensures .0 ns q) (c .onward5 .result) (c .onward5 .ensures)
+returns-28 c = arrives (c .before .before .before .before .before .before .before .before .before .before .before .before .before .before .pre .0) (c .before .before .before .before .before .before .before .before .before .before .before .before .before .before .pre .1 .1) (c .before .before .before .before .before .before .before .before .before .before .before .before .before .before .args .code .now) (c .before .before .before .before .before .before .before .before .before .before .before .before .before .before .args .b .at + 1) (c .before .before .before .before .before .before .before .k5 .given .0 .0) _ _ (instructionOf 16 0) (alone (c .before .before .before .before .before .before .before .before .before .before .before .before .before .before .args .code .now) (c .before .before .before .before .before .before .before .before .before .before .before .before .before .before .args .b) (c .before .before .before .before .before .before .before .before .before .before .before .before .before .before .pre .1 .0) 16 (c .before .before .before .before .before .before .before .before .before .before .match .keys5) refl) (omega (arith, c .before .before .before .before .before .before .before .before .before .before .before .before .before .before .pre .1 .0)) (c .before .before .before .before .before .before .before .before .before .invert .result) (c .before .before .before .before .before .before .before .k5 .given .1) (c .before .before .before .before .before .before .before .before .before .invert .ensures .0 ∙ sym (negated-is (knownOf (c .before .before .before .before .before .before .before .before .before .before .before .before .before .before .args .b .walk)))) (c .before .before .before .before .before .before .before .before .before .invert .ensures .1) (c .before .before .before .act5 .result) (λ ns q. c .before .before .before .act5 .ensures .0 ns q) (c .onward5 .result) (c .onward5 .ensures)
 
 -- code 17
 returns-29 : tie.Need-returns-29
 unfolding instructionOf hasOperand
-returns-29 c = arrives (c .before .before .before .before .before .before .before .before .before .before .before .before .before .before .pre .0) (c .before .before .before .before .before .before .before .before .before .before .before .before .before .before .pre .1 .1) (c .before .before .before .before .before .before .before .before .before .before .before .before .before .before .args .code .now) (c .before .before .before .before .before .before .before .before .before .before .before .before .before .before .args .b .at + 1) (c .before .before .before .before .before .before .before .k6 .given .0 .0) _ _ (instructionOf 17 0) (alone (c .before .before .before .before .before .before .before .before .before .before .before .before .before .before .args .code .now) (c .before .before .before .before .before .before .before .before .before .before .before .before .before .before .args .b) (c .before .before .before .before .before .before .before .before .before .before .before .before .before .before .pre .1 .0) 17 (c .before .before .before .before .before .before .before .before .before .before .match .keys6) refl) (omega (arith, c .before .before .before .before .before .before .before .before .before .before .before .before .before .before .pre .1 .0)) (c .before .before .before .before .before .before .before .before .before .test .result) (c .before .before .before .before .before .before .before .k6 .given .1) (c .before .before .before .before .before .before .before .before .before .test .ensures .0 ∙ sym (both-is (knownOf (c .before .before .before .before .before .before .before .before .before .before .before .before .before .before .args .b .walk)))) (c .before .before .before .before .before .before .before .before .before .test .ensures .1) (c .before .before .before .step6 .result) (λ ns q. c .before .before .before .step6 .ensures .0 ns q) (c .onward6 .result) (c .onward6 .ensures)
+returns-29 c = arrives (c .before .before .before .before .before .before .before .before .before .before .before .before .before .before .pre .0) (c .before .before .before .before .before .before .before .before .before .before .before .before .before .before .pre .1 .1) (c .before .before .before .before .before .before .before .before .before .before .before .before .before .before .args .code .now) (c .before .before .before .before .before .before .before .before .before .before .before .before .before .before .args .b .at + 1) (c .before .before .before .before .before .before .before .k6 .given .0 .0) _ _ (instructionOf 17 0) (alone (c .before .before .before .before .before .before .before .before .before .before .before .before .before .before .args .code .now) (c .before .before .before .before .before .before .before .before .before .before .before .before .before .before .args .b) (c .before .before .before .before .before .before .before .before .before .before .before .before .before .before .pre .1 .0) 17 (c .before .before .before .before .before .before .before .before .before .before .match .keys6) refl) (omega (arith, c .before .before .before .before .before .before .before .before .before .before .before .before .before .before .pre .1 .0)) (c .before .before .before .before .before .before .before .before .before .test .result) (c .before .before .before .before .before .before .before .k6 .given .1) (c .before .before .before .before .before .before .before .before .before .test .ensures .0 ∙ sym (both-is (knownOf (c .before .before .before .before .before .before .before .before .before .before .before .before .before .before .args .b .walk)))) (c .before .before .before .before .before .before .before .before .before .test .ensures .1) (c .before .before .before .act6 .result) (λ ns q. c .before .before .before .act6 .ensures .0 ns q) (c .onward6 .result) (c .onward6 .ensures)
 
 -- code 18
 returns-30 : tie.Need-returns-30
 unfolding instructionOf hasOperand
-returns-30 c = arrives (c .before .before .before .before .before .before .before .before .before .before .before .before .before .before .pre .0) (c .before .before .before .before .before .before .before .before .before .before .before .before .before .before .pre .1 .1) (c .before .before .before .before .before .before .before .before .before .before .before .before .before .before .args .code .now) (c .before .before .before .before .before .before .before .before .before .before .before .before .before .before .args .b .at + 1) (c .before .before .before .before .before .before .before .k7 .given .0 .0) _ _ (instructionOf 18 0) (alone (c .before .before .before .before .before .before .before .before .before .before .before .before .before .before .args .code .now) (c .before .before .before .before .before .before .before .before .before .before .before .before .before .before .args .b) (c .before .before .before .before .before .before .before .before .before .before .before .before .before .before .pre .1 .0) 18 (c .before .before .before .before .before .before .before .before .before .before .match .keys7) refl) (omega (arith, c .before .before .before .before .before .before .before .before .before .before .before .before .before .before .pre .1 .0)) (c .before .before .before .before .before .before .before .before .before .test2 .result) (c .before .before .before .before .before .before .before .k7 .given .1) (c .before .before .before .before .before .before .before .before .before .test2 .ensures .0 ∙ sym (either-is (knownOf (c .before .before .before .before .before .before .before .before .before .before .before .before .before .before .args .b .walk)))) (c .before .before .before .before .before .before .before .before .before .test2 .ensures .1) (c .before .before .before .step7 .result) (λ ns q. c .before .before .before .step7 .ensures .0 ns q) (c .onward7 .result) (c .onward7 .ensures)
+returns-30 c = arrives (c .before .before .before .before .before .before .before .before .before .before .before .before .before .before .pre .0) (c .before .before .before .before .before .before .before .before .before .before .before .before .before .before .pre .1 .1) (c .before .before .before .before .before .before .before .before .before .before .before .before .before .before .args .code .now) (c .before .before .before .before .before .before .before .before .before .before .before .before .before .before .args .b .at + 1) (c .before .before .before .before .before .before .before .k7 .given .0 .0) _ _ (instructionOf 18 0) (alone (c .before .before .before .before .before .before .before .before .before .before .before .before .before .before .args .code .now) (c .before .before .before .before .before .before .before .before .before .before .before .before .before .before .args .b) (c .before .before .before .before .before .before .before .before .before .before .before .before .before .before .pre .1 .0) 18 (c .before .before .before .before .before .before .before .before .before .before .match .keys7) refl) (omega (arith, c .before .before .before .before .before .before .before .before .before .before .before .before .before .before .pre .1 .0)) (c .before .before .before .before .before .before .before .before .before .test2 .result) (c .before .before .before .before .before .before .before .k7 .given .1) (c .before .before .before .before .before .before .before .before .before .test2 .ensures .0 ∙ sym (either-is (knownOf (c .before .before .before .before .before .before .before .before .before .before .before .before .before .before .args .b .walk)))) (c .before .before .before .before .before .before .before .before .before .test2 .ensures .1) (c .before .before .before .act7 .result) (λ ns q. c .before .before .before .act7 .ensures .0 ns q) (c .onward7 .result) (c .onward7 .ensures)
 
 -- code 19
 returns-31 : tie.Need-returns-31
 unfolding instructionOf hasOperand
-returns-31 c = arrives (c .before .before .before .before .before .before .before .before .before .before .before .before .before .before .pre .0) (c .before .before .before .before .before .before .before .before .before .before .before .before .before .before .pre .1 .1) (c .before .before .before .before .before .before .before .before .before .before .before .before .before .before .args .code .now) (c .before .before .before .before .before .before .before .before .before .before .before .before .before .before .args .b .at + 1) (c .before .before .before .before .before .before .before .k8 .given .0 .0) _ _ (instructionOf 19 0) (alone (c .before .before .before .before .before .before .before .before .before .before .before .before .before .before .args .code .now) (c .before .before .before .before .before .before .before .before .before .before .before .before .before .before .args .b) (c .before .before .before .before .before .before .before .before .before .before .before .before .before .before .pre .1 .0) 19 (c .before .before .before .before .before .before .before .before .before .before .match .keys8) refl) (omega (arith, c .before .before .before .before .before .before .before .before .before .before .before .before .before .before .pre .1 .0)) (c .before .before .before .before .before .before .before .before .before .gate .result) (c .before .before .before .before .before .before .before .k8 .given .1) (c .before .before .before .before .before .before .before .before .before .gate .ensures .0) (c .before .before .before .before .before .before .before .before .before .gate .ensures .1) (c .before .before .before .step8 .result) (λ ns q. c .before .before .before .step8 .ensures .0 ns q) (c .onward8 .result) (c .onward8 .ensures)
+returns-31 c = arrives (c .before .before .before .before .before .before .before .before .before .before .before .before .before .before .pre .0) (c .before .before .before .before .before .before .before .before .before .before .before .before .before .before .pre .1 .1) (c .before .before .before .before .before .before .before .before .before .before .before .before .before .before .args .code .now) (c .before .before .before .before .before .before .before .before .before .before .before .before .before .before .args .b .at + 1) (c .before .before .before .before .before .before .before .k8 .given .0 .0) _ _ (instructionOf 19 0) (alone (c .before .before .before .before .before .before .before .before .before .before .before .before .before .before .args .code .now) (c .before .before .before .before .before .before .before .before .before .before .before .before .before .before .args .b) (c .before .before .before .before .before .before .before .before .before .before .before .before .before .before .pre .1 .0) 19 (c .before .before .before .before .before .before .before .before .before .before .match .keys8) refl) (omega (arith, c .before .before .before .before .before .before .before .before .before .before .before .before .before .before .pre .1 .0)) (c .before .before .before .before .before .before .before .before .before .gate .result) (c .before .before .before .before .before .before .before .k8 .given .1) (c .before .before .before .before .before .before .before .before .before .gate .ensures .0) (c .before .before .before .before .before .before .before .before .before .gate .ensures .1) (c .before .before .before .act8 .result) (λ ns q. c .before .before .before .act8 .ensures .0 ns q) (c .onward8 .result) (c .onward8 .ensures)
 
 -- code 20
 returns-32 : tie.Need-returns-32
 unfolding instructionOf hasOperand
 returns-32 c =
     let num = (sym (c .before .before .before .before .before .before .before .before .before .before .before .before .before .operand4 .ensures) ∙ ap unsignedRead (c .before .before .before .before .before .before .before .before .before .before .before .n4 .given .1)) in
-    arrives (c .before .before .before .before .before .before .before .before .before .before .before .before .before .before .before .before .before .before .pre .0) (c .before .before .before .before .before .before .before .before .before .before .before .before .before .before .before .before .before .before .pre .1 .1) (c .before .before .before .before .before .before .before .before .before .before .before .before .before .before .before .before .before .before .args .code .now) (c .before .before .before .before .before .before .before .before .before .before .before .n4 .given .0 .1 .0) (c .before .before .before .before .before .before .before .k9 .given .0 .0) _ _ (instructionOf 20 (c .before .before .before .before .before .before .before .before .before .before .before .n4 .given .0 .0)) (with-operand (c .before .before .before .before .before .before .before .before .before .before .before .before .before .before .before .before .before .before .args .code .now) (c .before .before .before .before .before .before .before .before .before .before .before .before .before .before .before .before .before .before .args .b) (c .before .before .before .before .before .before .before .before .before .before .before .before .before .before .before .before .before .before .pre .1 .0) 20 (c .before .before .before .before .before .before .before .before .before .before .before .before .before .before .match .keys9) refl (c .before .before .before .before .before .before .before .before .before .before .before .n4 .given .0 .0) (c .before .before .before .before .before .before .before .before .before .before .before .n4 .given .0 .1 .0) num) (number-within _ _ _ _ num .inside) (c .before .before .before .before .before .before .before .before .before .pick .result) (c .before .before .before .before .before .before .before .k9 .given .1) (c .before .before .before .before .before .before .before .before .before .pick .ensures .0) (c .before .before .before .before .before .before .before .before .before .pick .ensures .1) (c .before .before .before .step9 .result) (λ ns q. c .before .before .before .step9 .ensures .0 ns q) (c .onward9 .result) (c .onward9 .ensures)
+    arrives (c .before .before .before .before .before .before .before .before .before .before .before .before .before .before .before .before .before .before .pre .0) (c .before .before .before .before .before .before .before .before .before .before .before .before .before .before .before .before .before .before .pre .1 .1) (c .before .before .before .before .before .before .before .before .before .before .before .before .before .before .before .before .before .before .args .code .now) (c .before .before .before .before .before .before .before .before .before .before .before .n4 .given .0 .1 .0) (c .before .before .before .before .before .before .before .k9 .given .0 .0) _ _ (instructionOf 20 (c .before .before .before .before .before .before .before .before .before .before .before .n4 .given .0 .0)) (with-operand (c .before .before .before .before .before .before .before .before .before .before .before .before .before .before .before .before .before .before .args .code .now) (c .before .before .before .before .before .before .before .before .before .before .before .before .before .before .before .before .before .before .args .b) (c .before .before .before .before .before .before .before .before .before .before .before .before .before .before .before .before .before .before .pre .1 .0) 20 (c .before .before .before .before .before .before .before .before .before .before .before .before .before .before .match .keys9) refl (c .before .before .before .before .before .before .before .before .before .before .before .n4 .given .0 .0) (c .before .before .before .before .before .before .before .before .before .before .before .n4 .given .0 .1 .0) num) (number-within _ _ _ _ num .inside) (c .before .before .before .before .before .before .before .before .before .pick .result) (c .before .before .before .before .before .before .before .k9 .given .1) (c .before .before .before .before .before .before .before .before .before .pick .ensures .0) (c .before .before .before .before .before .before .before .before .before .pick .ensures .1) (c .before .before .before .act9 .result) (λ ns q. c .before .before .before .act9 .ensures .0 ns q) (c .onward9 .result) (c .onward9 .ensures)
 
 -- code 21
 returns-33 : tie.Need-returns-33
 unfolding instructionOf hasOperand
 returns-33 c =
     let num = (sym (c .before .before .before .before .before .before .before .before .before .before .before .before .before .operand5 .ensures) ∙ ap unsignedRead (c .before .before .before .before .before .before .before .before .before .before .before .n5 .given .1)) in
-    arrives (c .before .before .before .before .before .before .before .before .before .before .before .before .before .before .before .before .before .before .pre .0) (c .before .before .before .before .before .before .before .before .before .before .before .before .before .before .before .before .before .before .pre .1 .1) (c .before .before .before .before .before .before .before .before .before .before .before .before .before .before .before .before .before .before .args .code .now) (c .before .before .before .before .before .before .before .before .before .before .before .n5 .given .0 .1 .0) (c .before .before .before .before .before .before .before .k10 .given .0 .0) _ _ (instructionOf 21 (c .before .before .before .before .before .before .before .before .before .before .before .n5 .given .0 .0)) (with-operand (c .before .before .before .before .before .before .before .before .before .before .before .before .before .before .before .before .before .before .args .code .now) (c .before .before .before .before .before .before .before .before .before .before .before .before .before .before .before .before .before .before .args .b) (c .before .before .before .before .before .before .before .before .before .before .before .before .before .before .before .before .before .before .pre .1 .0) 21 (c .before .before .before .before .before .before .before .before .before .before .before .before .before .before .match .keys10) refl (c .before .before .before .before .before .before .before .before .before .before .before .n5 .given .0 .0) (c .before .before .before .before .before .before .before .before .before .before .before .n5 .given .0 .1 .0) num) (number-within _ _ _ _ num .inside) (c .before .before .before .before .before .before .before .before .before .assign .result) (c .before .before .before .before .before .before .before .k10 .given .1) (c .before .before .before .before .before .before .before .before .before .assign .ensures .0) (c .before .before .before .before .before .before .before .before .before .assign .ensures .1) (c .before .before .before .step10 .result) (λ ns q. c .before .before .before .step10 .ensures .0 ns q) (c .onward10 .result) (c .onward10 .ensures)
+    arrives (c .before .before .before .before .before .before .before .before .before .before .before .before .before .before .before .before .before .before .pre .0) (c .before .before .before .before .before .before .before .before .before .before .before .before .before .before .before .before .before .before .pre .1 .1) (c .before .before .before .before .before .before .before .before .before .before .before .before .before .before .before .before .before .before .args .code .now) (c .before .before .before .before .before .before .before .before .before .before .before .n5 .given .0 .1 .0) (c .before .before .before .before .before .before .before .k10 .given .0 .0) _ _ (instructionOf 21 (c .before .before .before .before .before .before .before .before .before .before .before .n5 .given .0 .0)) (with-operand (c .before .before .before .before .before .before .before .before .before .before .before .before .before .before .before .before .before .before .args .code .now) (c .before .before .before .before .before .before .before .before .before .before .before .before .before .before .before .before .before .before .args .b) (c .before .before .before .before .before .before .before .before .before .before .before .before .before .before .before .before .before .before .pre .1 .0) 21 (c .before .before .before .before .before .before .before .before .before .before .before .before .before .before .match .keys10) refl (c .before .before .before .before .before .before .before .before .before .before .before .n5 .given .0 .0) (c .before .before .before .before .before .before .before .before .before .before .before .n5 .given .0 .1 .0) num) (number-within _ _ _ _ num .inside) (c .before .before .before .before .before .before .before .before .before .assign .result) (c .before .before .before .before .before .before .before .k10 .given .1) (c .before .before .before .before .before .before .before .before .before .assign .ensures .0) (c .before .before .before .before .before .before .before .before .before .assign .ensures .1) (c .before .before .before .act10 .result) (λ ns q. c .before .before .before .act10 .ensures .0 ns q) (c .onward10 .result) (c .onward10 .ensures)
 
 -- code 22
 returns-34 : tie.Need-returns-34
 unfolding instructionOf hasOperand
 returns-34 c =
     let num = (sym (c .before .before .before .before .before .before .before .before .before .before .before .before .before .operand6 .ensures) ∙ ap unsignedRead (c .before .before .before .before .before .before .before .before .before .before .before .n6 .given .1)) in
-    arrives (c .before .before .before .before .before .before .before .before .before .before .before .before .before .before .before .before .before .before .pre .0) (c .before .before .before .before .before .before .before .before .before .before .before .before .before .before .before .before .before .before .pre .1 .1) (c .before .before .before .before .before .before .before .before .before .before .before .before .before .before .before .before .before .before .args .code .now) (c .before .before .before .before .before .before .before .before .before .before .before .n6 .given .0 .1 .0) (c .before .before .before .before .before .before .before .k11 .given .0 .0) _ _ (instructionOf 22 (c .before .before .before .before .before .before .before .before .before .before .before .n6 .given .0 .0)) (with-operand (c .before .before .before .before .before .before .before .before .before .before .before .before .before .before .before .before .before .before .args .code .now) (c .before .before .before .before .before .before .before .before .before .before .before .before .before .before .before .before .before .before .args .b) (c .before .before .before .before .before .before .before .before .before .before .before .before .before .before .before .before .before .before .pre .1 .0) 22 (c .before .before .before .before .before .before .before .before .before .before .before .before .before .before .match .keys11) refl (c .before .before .before .before .before .before .before .before .before .before .before .n6 .given .0 .0) (c .before .before .before .before .before .before .before .before .before .before .before .n6 .given .0 .1 .0) num) (number-within _ _ _ _ num .inside) (c .before .before .before .before .before .before .before .before .before .settle .result) (c .before .before .before .before .before .before .before .k11 .given .1) (c .before .before .before .before .before .before .before .before .before .settle .ensures .0) (c .before .before .before .before .before .before .before .before .before .settle .ensures .1) (c .before .before .before .step11 .result) (λ ns q. c .before .before .before .step11 .ensures .0 ns q) (c .onward11 .result) (c .onward11 .ensures)
+    arrives (c .before .before .before .before .before .before .before .before .before .before .before .before .before .before .before .before .before .before .pre .0) (c .before .before .before .before .before .before .before .before .before .before .before .before .before .before .before .before .before .before .pre .1 .1) (c .before .before .before .before .before .before .before .before .before .before .before .before .before .before .before .before .before .before .args .code .now) (c .before .before .before .before .before .before .before .before .before .before .before .n6 .given .0 .1 .0) (c .before .before .before .before .before .before .before .k11 .given .0 .0) _ _ (instructionOf 22 (c .before .before .before .before .before .before .before .before .before .before .before .n6 .given .0 .0)) (with-operand (c .before .before .before .before .before .before .before .before .before .before .before .before .before .before .before .before .before .before .args .code .now) (c .before .before .before .before .before .before .before .before .before .before .before .before .before .before .before .before .before .before .args .b) (c .before .before .before .before .before .before .before .before .before .before .before .before .before .before .before .before .before .before .pre .1 .0) 22 (c .before .before .before .before .before .before .before .before .before .before .before .before .before .before .match .keys11) refl (c .before .before .before .before .before .before .before .before .before .before .before .n6 .given .0 .0) (c .before .before .before .before .before .before .before .before .before .before .before .n6 .given .0 .1 .0) num) (number-within _ _ _ _ num .inside) (c .before .before .before .before .before .before .before .before .before .settle .result) (c .before .before .before .before .before .before .before .k11 .given .1) (c .before .before .before .before .before .before .before .before .before .settle .ensures .0) (c .before .before .before .before .before .before .before .before .before .settle .ensures .1) (c .before .before .before .act11 .result) (λ ns q. c .before .before .before .act11 .ensures .0 ns q) (c .onward11 .result) (c .onward11 .ensures)
 
 -- code 24
 returns-35 : tie.Need-returns-35
 unfolding instructionOf hasOperand
 returns-35 c =
     let num = (sym (c .before .before .before .before .before .before .before .before .before .before .before .before .before .operand7 .ensures) ∙ ap unsignedRead (c .before .before .before .before .before .before .before .before .before .before .before .n7 .given .1)) in
-    arrives (c .before .before .before .before .before .before .before .before .before .before .before .before .before .before .before .before .before .before .pre .0) (c .before .before .before .before .before .before .before .before .before .before .before .before .before .before .before .before .before .before .pre .1 .1) (c .before .before .before .before .before .before .before .before .before .before .before .before .before .before .before .before .before .before .args .code .now) (c .before .before .before .before .before .before .before .before .before .before .before .n7 .given .0 .1 .0) (c .before .before .before .before .before .before .before .k12 .given .0 .0) _ _ (instructionOf 24 (c .before .before .before .before .before .before .before .before .before .before .before .n7 .given .0 .0)) (with-operand (c .before .before .before .before .before .before .before .before .before .before .before .before .before .before .before .before .before .before .args .code .now) (c .before .before .before .before .before .before .before .before .before .before .before .before .before .before .before .before .before .before .args .b) (c .before .before .before .before .before .before .before .before .before .before .before .before .before .before .before .before .before .before .pre .1 .0) 24 (c .before .before .before .before .before .before .before .before .before .before .before .before .before .before .match .keys12) refl (c .before .before .before .before .before .before .before .before .before .before .before .n7 .given .0 .0) (c .before .before .before .before .before .before .before .before .before .before .before .n7 .given .0 .1 .0) num) (number-within _ _ _ _ num .inside) (c .before .before .before .before .before .before .before .before .before .pick2 .result) (c .before .before .before .before .before .before .before .k12 .given .1) (c .before .before .before .before .before .before .before .before .before .pick2 .ensures .0) (c .before .before .before .before .before .before .before .before .before .pick2 .ensures .1) (c .before .before .before .step12 .result) (λ ns q. c .before .before .before .step12 .ensures .0 ns q) (c .onward12 .result) (c .onward12 .ensures)
+    arrives (c .before .before .before .before .before .before .before .before .before .before .before .before .before .before .before .before .before .before .pre .0) (c .before .before .before .before .before .before .before .before .before .before .before .before .before .before .before .before .before .before .pre .1 .1) (c .before .before .before .before .before .before .before .before .before .before .before .before .before .before .before .before .before .before .args .code .now) (c .before .before .before .before .before .before .before .before .before .before .before .n7 .given .0 .1 .0) (c .before .before .before .before .before .before .before .k12 .given .0 .0) _ _ (instructionOf 24 (c .before .before .before .before .before .before .before .before .before .before .before .n7 .given .0 .0)) (with-operand (c .before .before .before .before .before .before .before .before .before .before .before .before .before .before .before .before .before .before .args .code .now) (c .before .before .before .before .before .before .before .before .before .before .before .before .before .before .before .before .before .before .args .b) (c .before .before .before .before .before .before .before .before .before .before .before .before .before .before .before .before .before .before .pre .1 .0) 24 (c .before .before .before .before .before .before .before .before .before .before .before .before .before .before .match .keys12) refl (c .before .before .before .before .before .before .before .before .before .before .before .n7 .given .0 .0) (c .before .before .before .before .before .before .before .before .before .before .before .n7 .given .0 .1 .0) num) (number-within _ _ _ _ num .inside) (c .before .before .before .before .before .before .before .before .before .pick2 .result) (c .before .before .before .before .before .before .before .k12 .given .1) (c .before .before .before .before .before .before .before .before .before .pick2 .ensures .0) (c .before .before .before .before .before .before .before .before .before .pick2 .ensures .1) (c .before .before .before .act12 .result) (λ ns q. c .before .before .before .act12 .ensures .0 ns q) (c .onward12 .result) (c .onward12 .ensures)
 
 -- code 25
 returns-36 : tie.Need-returns-36
 unfolding instructionOf hasOperand
 returns-36 c =
     let num = (sym (c .before .before .before .before .before .before .before .before .before .before .before .before .before .operand8 .ensures) ∙ ap unsignedRead (c .before .before .before .before .before .before .before .before .before .before .before .n8 .given .1)) in
-    arrives (c .before .before .before .before .before .before .before .before .before .before .before .before .before .before .before .before .before .before .pre .0) (c .before .before .before .before .before .before .before .before .before .before .before .before .before .before .before .before .before .before .pre .1 .1) (c .before .before .before .before .before .before .before .before .before .before .before .before .before .before .before .before .before .before .args .code .now) (c .before .before .before .before .before .before .before .before .before .before .before .n8 .given .0 .1 .0) (c .before .before .before .before .before .before .before .k13 .given .0 .0) _ _ (instructionOf 25 (c .before .before .before .before .before .before .before .before .before .before .before .n8 .given .0 .0)) (with-operand (c .before .before .before .before .before .before .before .before .before .before .before .before .before .before .before .before .before .before .args .code .now) (c .before .before .before .before .before .before .before .before .before .before .before .before .before .before .before .before .before .before .args .b) (c .before .before .before .before .before .before .before .before .before .before .before .before .before .before .before .before .before .before .pre .1 .0) 25 (c .before .before .before .before .before .before .before .before .before .before .before .before .before .before .match .keys13) refl (c .before .before .before .before .before .before .before .before .before .before .before .n8 .given .0 .0) (c .before .before .before .before .before .before .before .before .before .before .before .n8 .given .0 .1 .0) num) (number-within _ _ _ _ num .inside) (c .before .before .before .before .before .before .before .before .before .pick3 .result) (c .before .before .before .before .before .before .before .k13 .given .1) (c .before .before .before .before .before .before .before .before .before .pick3 .ensures .0) (c .before .before .before .before .before .before .before .before .before .pick3 .ensures .1) (c .before .before .before .step13 .result) (λ ns q. c .before .before .before .step13 .ensures .0 ns q) (c .onward13 .result) (c .onward13 .ensures)
+    arrives (c .before .before .before .before .before .before .before .before .before .before .before .before .before .before .before .before .before .before .pre .0) (c .before .before .before .before .before .before .before .before .before .before .before .before .before .before .before .before .before .before .pre .1 .1) (c .before .before .before .before .before .before .before .before .before .before .before .before .before .before .before .before .before .before .args .code .now) (c .before .before .before .before .before .before .before .before .before .before .before .n8 .given .0 .1 .0) (c .before .before .before .before .before .before .before .k13 .given .0 .0) _ _ (instructionOf 25 (c .before .before .before .before .before .before .before .before .before .before .before .n8 .given .0 .0)) (with-operand (c .before .before .before .before .before .before .before .before .before .before .before .before .before .before .before .before .before .before .args .code .now) (c .before .before .before .before .before .before .before .before .before .before .before .before .before .before .before .before .before .before .args .b) (c .before .before .before .before .before .before .before .before .before .before .before .before .before .before .before .before .before .before .pre .1 .0) 25 (c .before .before .before .before .before .before .before .before .before .before .before .before .before .before .match .keys13) refl (c .before .before .before .before .before .before .before .before .before .before .before .n8 .given .0 .0) (c .before .before .before .before .before .before .before .before .before .before .before .n8 .given .0 .1 .0) num) (number-within _ _ _ _ num .inside) (c .before .before .before .before .before .before .before .before .before .pick3 .result) (c .before .before .before .before .before .before .before .k13 .given .1) (c .before .before .before .before .before .before .before .before .before .pick3 .ensures .0) (c .before .before .before .before .before .before .before .before .before .pick3 .ensures .1) (c .before .before .before .act13 .result) (λ ns q. c .before .before .before .act13 .ensures .0 ns q) (c .onward13 .result) (c .onward13 .ensures)
 
 -- code 4 to 8
 returns-37 : tie.Need-returns-37
@@ -276,18 +276,18 @@ pub advance-one-spec : {M : Type 1} → statement M
 advance-one-spec =
     tie.close
     (tie.spec (λ c. search needs) (λ c. search needs) (λ c κs. search needs) (λ c. search needs) (λ c. search needs) returns
-    (λ c κs. search needs) (λ c. search needs) (λ c. search needs) returns-2 step-requires (λ c κs. search needs) (λ c κs. search needs)
-    (λ c. search needs) (λ c. search needs) returns-3 (λ c κs. search needs) (λ c. search needs) (λ c. search needs) returns-4 step-requires-2
+    (λ c κs. search needs) (λ c. search needs) (λ c. search needs) returns-2 act-requires (λ c κs. search needs) (λ c κs. search needs)
+    (λ c. search needs) (λ c. search needs) returns-3 (λ c κs. search needs) (λ c. search needs) (λ c. search needs) returns-4 act-requires-2
     (λ c κs. search needs) (λ c κs. search needs) (λ c. search needs) (λ c. search needs) returns-5 (λ c κs. search needs) (λ c. search needs)
-    (λ c. search needs) returns-6 step-requires-3 (λ c κs. search needs) (λ c κs. search needs) (λ c. search needs) (λ c. search needs) returns-7
+    (λ c. search needs) returns-6 act-requires-3 (λ c κs. search needs) (λ c κs. search needs) (λ c. search needs) (λ c. search needs) returns-7
     (λ c κs. search needs) (λ c κs. search needs) (λ c κs. search needs) (λ c. search needs) (λ c. search needs) returns-8 (λ c κs. search needs)
     (λ c κs. search needs) (λ c κs. search needs) (λ c. search needs) (λ c. search needs) returns-9 (λ c κs. search needs) (λ c κs. search needs)
     (λ c κs. search needs) (λ c. search needs) (λ c. search needs) returns-10 (λ c κs. search needs) (λ c κs. search needs) (λ c κs. search needs)
     (λ c. search needs) (λ c. search needs) returns-11 (λ c κs. search needs) (λ c κs. search needs) (λ c κs. search needs) (λ c. search needs)
-    (λ c. search needs) returns-12 pick-requires (λ c. search needs) (λ c. search needs) returns-13 step-requires-9 (λ c κs. search needs)
+    (λ c. search needs) returns-12 pick-requires (λ c. search needs) (λ c. search needs) returns-13 act-requires-9 (λ c κs. search needs)
     (λ c κs. search needs) (λ c. search needs) (λ c. search needs) returns-14 (λ c κs. search needs) (λ c. search needs) (λ c. search needs)
-    returns-15 step-requires-10 (λ c κs. search needs) (λ c κs. search needs) (λ c. search needs) (λ c. search needs) returns-16 settle-requires
-    (λ c. search needs) (λ c. search needs) returns-17 step-requires-11 (λ c κs. search needs) (λ c κs. search needs) (λ c. search needs) (λ c. search needs) returns-18 pick-requires-2 (λ c. search needs) (λ c. search needs) returns-19 step-requires-12 (λ c κs. search needs) (λ c κs. search needs) (λ c. search needs) (λ c. search needs) returns-20 pick-requires-3 (λ c. search needs) (λ c. search needs) returns-21 step-requires-13 (λ c κs. search needs) (λ c κs. search needs) (λ c. search needs)
+    returns-15 act-requires-10 (λ c κs. search needs) (λ c κs. search needs) (λ c. search needs) (λ c. search needs) returns-16 settle-requires
+    (λ c. search needs) (λ c. search needs) returns-17 act-requires-11 (λ c κs. search needs) (λ c κs. search needs) (λ c. search needs) (λ c. search needs) returns-18 pick-requires-2 (λ c. search needs) (λ c. search needs) returns-19 act-requires-12 (λ c κs. search needs) (λ c κs. search needs) (λ c. search needs) (λ c. search needs) returns-20 pick-requires-3 (λ c. search needs) (λ c. search needs) returns-21 act-requires-13 (λ c κs. search needs) (λ c κs. search needs) (λ c. search needs)
     (λ c. search needs) returns-22 (λ c κs. search needs) (λ c κs. search needs) (λ c κs. search needs) (λ c. search needs) (λ c. search needs)
     returns-23 (λ c κs. search needs) (λ c κs. search needs) (λ c. search needs) (λ c. search needs) returns-24 (λ c. search needs)
     (λ c. search needs) returns-25 (λ c. search needs) (λ c. search needs) returns-26 (λ c. search needs) (λ c. search needs) returns-27
