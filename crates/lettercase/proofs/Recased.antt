@@ -122,13 +122,13 @@ spelled-too text other p c s =
         input-count = refl;
         distinct = distinct-too k (p .names) same-p (s .distinct);
         few = omega arith;
-        spells-rules = subst (λ (l : Tokens). SpellsRules l (s .rule-tokens) (p .rules)) (sym seen) (s .spells-rules);
-        spells-watches = subst (λ (l : Tokens). SpellsWatches l (s .watch-tokens) (p .watches)) (sym seen) (s .spells-watches);
+        spells-rules = rw seen (s .spells-rules);
+        spells-watches = rw seen (s .spells-watches);
         few-watches = s .few-watches;
-        ordered = subst (λ (n : ℕ). OrderedRules (p .timers) (knownFirst n (length (map (λ n. n .range) k))) (p .rules)) (sym inputs) (subst (λ (l : List Range). OrderedRules (p .timers) (knownFirst (p .inputs) (length l)) (p .rules)) (sym ranges) (s .ordered));
+        ordered = rw (inputs, ranges) (s .ordered);
         timers-fit = record {
-          numbered = subst (λ (l : List Range). Numbered (length l - length (p .timers)) (length l) (p .timers)) (sym ranges) (s .timers-fit .numbered);
-          each = subst (λ (n : ℕ). EachTimer (TimerFits (map (λ n. n .range) k) n (length (map (λ n. n .range) k) - length (p .timers))) (p .timers)) (sym inputs) (subst (λ (l : List Range). EachTimer (TimerFits l (p .inputs) (length l - length (p .timers))) (p .timers)) (sym ranges) (s .timers-fit .each));
+          numbered = rw ranges (s .timers-fit .numbered);
+          each = rw (inputs, ranges) (s .timers-fit .each);
         };
       };
       same = record { same-inputs = inputs; same-names = seen; same-ranges = ranges; same-timers = refl; same-rules = refl; same-watches = refl };

@@ -1,5 +1,5 @@
 -- `fused::run_in` meets its contract. The outer loop's invariant is Fusing, the inner loop keeps it; the measure is the code that is left. Assumes nothing.
-use Prim.Native.Nat.{_-_, _≤_, _<_}
+use Prim.Native.Nat.{_+_, _-_, _≤_, _<_}
 use mathlib.Core.Path.{_≡_, refl, sym, subst, _∙_}
 use mathlib.Core.Bool.{false≢true}
 use mathlib.Core.List.{List}
@@ -50,12 +50,23 @@ returns c = absurd (subst (λ x. LeapsFirst (c .before .before .before .before .
 returns-2 : tie.Need-returns-2 Inv-loop μ-loop Inv-code μ-code
 returns-2 c = fusing-broken (c .before .before .before .before .before .before .code .inv) (subst (λ x. LeapsFirst (c .before .before .before .before .before .before .before .before .before .args .code .now) (c .before .before .before .before .before .before .code .b) x) (c .before .enum-told .given .1) (c .before .before .before .pass-first .ensures)) (omega (arith, c .before .before .before .before .if1 .taken)) _ (c .broken .result) (c .broken .ensures)
 
+loop-holds : tie.Need-loop-holds Inv-loop μ-loop Inv-code μ-code
+loop-holds c = (omega arith, inr refl, λ cur₁ vals₁ f. f)
+
+-- a turn of the inner loop begins
+going : (c : tie.At-loop Inv-loop μ-loop Inv-code μ-code) → let a = c .before .before .before .before .before .before .before .before .before .before .args in Fusing (a .code .now) (a .low .now) (a .high .now) (a .prev .now) (a .inputs) (a .cur .now) (a .vals .now) (c .loop .cur) (c .loop .vals) (c .loop .b) (c .loop .steps)
+going c = c .loop .inv .2 _ _ (fusing-first (c .before .before .before .before .before .before .before .code .inv) (c .before .before .before .before .pass-first .result) _ _ (c .before .before .before .before .pass-first .ensures) (c .before .before .k .given .1))
+
+-- and has done a stretch together
+stretched : (c : tie.After-act Inv-loop μ-loop Inv-code μ-code) → let a = c .before .before .before .before .before .before .before .before .before .before .before .before .before .before .before .before .args in Fusing (a .code .now) (a .low .now) (a .high .now) (a .prev .now) (a .inputs) (a .cur .now) (a .vals .now) (c .before .before .before .before .before .before .loop .cur) (c .act .last .1 .1 .1 .1 .1 .0) (c .act .result .progress) (c .before .before .before .before .before .before .loop .steps + c .act .result .steps)
+stretched c = fusing-stretches (going (c .before .before .before .before .before .before)) (c .act .ensures)
+
 -- the inner loop ends with the code
 code-less : tie.Need-code-less Inv-loop μ-loop Inv-code μ-code
 code-less c = omega (arith, c .if2 .left, c .before .before .before .before .before .before .before .if1 .taken)
 
 code-again : tie.Need-code-again Inv-loop μ-loop Inv-code μ-code
-code-again c = c .before .before .loop .inv .2 _ _ (fusing-first (c .before .before .before .before .before .before .before .before .before .code .inv) (c .before .before .before .before .before .before .pass-first .result) _ _ (c .before .before .before .before .before .before .pass-first .ensures) (c .before .before .before .before .k .given .1))
+code-again c = going (c .before .before)
 
 -- or where instructions are passed over
 code-less-2 : tie.Need-code-less-2 Inv-loop μ-loop Inv-code μ-code
@@ -66,60 +77,60 @@ code-less-2 c =
     omega (arith, less, c .before .if2 .taken)
 
 code-again-2 : tie.Need-code-again-2 Inv-loop μ-loop Inv-code μ-code
-code-again-2 c = c .before .before .before .loop .inv .2 _ _ (fusing-first (c .before .before .before .before .before .before .before .before .before .before .code .inv) (c .before .before .before .before .before .before .before .pass-first .result) _ _ (c .before .before .before .before .before .before .before .pass-first .ensures) (c .before .before .before .before .before .k .given .1))
+code-again-2 c = going (c .before .before .before)
 
 -- what is done together
 act-requires : tie.Need-act-requires Inv-loop μ-loop Inv-code μ-code
-act-requires c κs = ((c .before .before .before .before .before .loop .inv .2 _ _ (fusing-first (c .before .before .before .before .before .before .before .before .before .before .before .before .code .inv) (c .before .before .before .before .before .before .before .before .before .pass-first .result) _ _ (c .before .before .before .before .before .before .before .before .before .pass-first .ensures) (c .before .before .before .before .before .before .before .k .given .1))) .ready, c .before .before .if3 .left)
+act-requires c κs = (going (c .before .before .before .before .before) .ready, c .before .before .if3 .left)
 
 add-steps-2 : tie.Need-add-steps-2 Inv-loop μ-loop Inv-code μ-code
 add-steps-2 c =
     let inside = stretch-inside (c .before .before .before .act .ensures) (omega (arith, c .before .before .before .before .before .before .before .if2 .taken)) in
-    omega (arith, (c .before .before .before .before .before .before .before .before .before .loop .inv .2 _ _ (fusing-first (c .before .before .before .before .before .before .before .before .before .before .before .before .before .before .before .before .code .inv) (c .before .before .before .before .before .before .before .before .before .before .before .before .before .pass-first .result) _ _ (c .before .before .before .before .before .before .before .before .before .before .before .before .before .pass-first .ensures) (c .before .before .before .before .before .before .before .before .before .before .before .k .given .1))) .few, stretch-far (c .before .before .before .act .ensures), inside, c .before .before .before .before .before .before .before .before .before .before .before .before .before .before .before .before .before .before .before .good .0)
+    omega (arith, going (c .before .before .before .before .before .before .before .before .before) .few, stretch-far (c .before .before .before .act .ensures), inside, c .before .before .before .before .before .before .before .before .before .before .before .before .before .before .before .before .before .before .before .good .0)
 
 code-less-3 : tie.Need-code-less-3 Inv-loop μ-loop Inv-code μ-code
 code-less-3 c = omega (arith, c .if4 .taken, c .before .before .before .before .before .before .before .before .before .before .before .before .before .before .before .before .if1 .taken)
 
 code-again-3 : tie.Need-code-again-3 Inv-loop μ-loop Inv-code μ-code
-code-again-3 c = fusing-stretches (c .before .before .before .before .before .before .before .before .before .before .before .loop .inv .2 _ _ (fusing-first (c .before .before .before .before .before .before .before .before .before .before .before .before .before .before .before .before .before .before .code .inv) (c .before .before .before .before .before .before .before .before .before .before .before .before .before .before .before .pass-first .result) _ _ (c .before .before .before .before .before .before .before .before .before .before .before .before .before .before .before .pass-first .ensures) (c .before .before .before .before .before .before .before .before .before .before .before .before .before .k .given .1))) (c .before .before .before .before .before .act .ensures)
+code-again-3 c = stretched (c .before .before .before .before .before)
 
 -- a turn of the inner loop
 advance-ahead-requires : tie.Need-advance-ahead-requires Inv-loop μ-loop Inv-code μ-code
-advance-ahead-requires c κs = ((fusing-stretches (c .before .before .before .before .before .before .before .before .before .before .before .before .before .loop .inv .2 _ _ (fusing-first (c .before .before .before .before .before .before .before .before .before .before .before .before .before .before .before .before .before .before .before .before .code .inv) (c .before .before .before .before .before .before .before .before .before .before .before .before .before .before .before .before .before .pass-first .result) _ _ (c .before .before .before .before .before .before .before .before .before .before .before .before .before .before .before .before .before .pass-first .ensures) (c .before .before .before .before .before .before .before .before .before .before .before .before .before .before .before .k .given .1))) (c .before .before .before .before .before .before .before .act .ensures)) .ready, (c .before .before .if4 .left, c .before .before .before .before .before .before .before .act .ensures .acting))
+advance-ahead-requires c κs = (stretched (c .before .before .before .before .before .before .before) .ready, (c .before .before .if4 .left, c .before .before .before .before .before .before .before .act .ensures .acting))
 
 add-steps-3 : tie.Need-add-steps-3 Inv-loop μ-loop Inv-code μ-code
 add-steps-3 c =
-    let inv = fusing-stretches (c .before .before .before .before .before .before .before .before .before .before .before .before .before .before .before .before .before .before .before .loop .inv .2 _ _ (fusing-first (c .before .before .before .before .before .before .before .before .before .before .before .before .before .before .before .before .before .before .before .before .before .before .before .before .before .before .code .inv) (c .before .before .before .before .before .before .before .before .before .before .before .before .before .before .before .before .before .before .before .before .before .before .before .pass-first .result) _ _ (c .before .before .before .before .before .before .before .before .before .before .before .before .before .before .before .before .before .before .before .before .before .before .before .pass-first .ensures) (c .before .before .before .before .before .before .before .before .before .before .before .before .before .before .before .before .before .before .before .before .before .k .given .1))) (c .before .before .before .before .before .before .before .before .before .before .before .before .before .act .ensures) in
+    let inv = stretched (c .before .before .before .before .before .before .before .before .before .before .before .before .before) in
     let far = goes-far _ _ _ _ _ _ _ (leapt inv _ _ (c .before .before .before .before .before .advance-ahead .result) _ _ (c .before .before .before .before .before .advance-ahead .ensures) (c .before .m .given .1)) in
     omega (arith, inv .few, far .0, far .1, c .before .before .before .before .before .before .before .before .before .before .before .before .before .before .before .before .before .before .before .before .before .before .before .before .before .before .before .before .before .good .0)
 
 loop-less : tie.Need-loop-less Inv-loop μ-loop Inv-code μ-code
 loop-less c =
-    let far = goes-far _ _ _ _ _ _ _ (leapt (fusing-stretches (c .before .before .before .before .before .before .before .before .before .before .before .before .before .before .before .before .before .before .before .loop .inv .2 _ _ (fusing-first (c .before .before .before .before .before .before .before .before .before .before .before .before .before .before .before .before .before .before .before .before .before .before .before .before .before .before .code .inv) (c .before .before .before .before .before .before .before .before .before .before .before .before .before .before .before .before .before .before .before .before .before .before .before .pass-first .result) _ _ (c .before .before .before .before .before .before .before .before .before .before .before .before .before .before .before .before .before .before .before .before .before .before .before .pass-first .ensures) (c .before .before .before .before .before .before .before .before .before .before .before .before .before .before .before .before .before .before .before .before .before .k .given .1))) (c .before .before .before .before .before .before .before .before .before .before .before .before .before .act .ensures)) _ _ (c .before .before .before .before .before .advance-ahead .result) _ _ (c .before .before .before .before .before .advance-ahead .ensures) (c .before .m .given .1)) in
+    let far = goes-far _ _ _ _ _ _ _ (leapt (stretched (c .before .before .before .before .before .before .before .before .before .before .before .before .before)) _ _ (c .before .before .before .before .before .advance-ahead .result) _ _ (c .before .before .before .before .before .advance-ahead .ensures) (c .before .m .given .1)) in
     omega (arith, stretch-far (c .before .before .before .before .before .before .before .before .before .before .before .before .before .act .ensures), far .0, far .2, c .before .before .before .before .before .before .before .before .if4 .left)
 
 loop-again : tie.Need-loop-again Inv-loop μ-loop Inv-code μ-code
 loop-again c =
-    let goes = leapt (fusing-stretches (c .before .before .before .before .before .before .before .before .before .before .before .before .before .before .before .before .before .before .before .loop .inv .2 _ _ (fusing-first (c .before .before .before .before .before .before .before .before .before .before .before .before .before .before .before .before .before .before .before .before .before .before .before .before .before .before .code .inv) (c .before .before .before .before .before .before .before .before .before .before .before .before .before .before .before .before .before .before .before .before .before .before .before .pass-first .result) _ _ (c .before .before .before .before .before .before .before .before .before .before .before .before .before .before .before .before .before .before .before .before .before .before .before .pass-first .ensures) (c .before .before .before .before .before .before .before .before .before .before .before .before .before .before .before .before .before .before .before .before .before .k .given .1))) (c .before .before .before .before .before .before .before .before .before .before .before .before .before .act .ensures)) _ _ (c .before .before .before .before .before .advance-ahead .result) _ _ (c .before .before .before .before .before .advance-ahead .ensures) (c .before .m .given .1) in
+    let goes = leapt (stretched (c .before .before .before .before .before .before .before .before .before .before .before .before .before)) _ _ (c .before .before .before .before .before .advance-ahead .result) _ _ (c .before .before .before .before .before .advance-ahead .ensures) (c .before .m .given .1) in
     let far = goes-far _ _ _ _ _ _ _ goes in
     (omega (arith, c .before .before .before .before .before .before .before .before .before .before .before .before .before .before .before .before .before .before .before .loop .inv .0, stretch-far (c .before .before .before .before .before .before .before .before .before .before .before .before .before .act .ensures), far .0), inl (omega (arith, c .before .before .before .before .before .before .before .before .before .before .before .before .before .before .before .before .before .before .before .loop .inv .0, stretch-far (c .before .before .before .before .before .before .before .before .before .before .before .before .before .act .ensures), far .0, far .2)), λ cur₁ vals₁ f. fusing-leaps _ _ _ _ _ _ _ goes (fusing-stretches (c .before .before .before .before .before .before .before .before .before .before .before .before .before .before .before .before .before .before .before .loop .inv .2 cur₁ vals₁ f) (c .before .before .before .before .before .before .before .before .before .before .before .before .before .act .ensures)) (c .before .before .before .before .before .advance-ahead .kept .1 .1 .1 .1 .1 .0) (c .before .before .before .before .before .advance-ahead .kept .1 .1 .1 .1 .0))
 
 -- that the machine refuses
 add-refused : tie.Need-add-refused Inv-loop μ-loop Inv-code μ-code
-add-refused c = omega (arith, (fusing-stretches (c .before .before .before .before .before .before .before .before .before .before .before .before .before .before .before .before .before .before .before .before .loop .inv .2 _ _ (fusing-first (c .before .before .before .before .before .before .before .before .before .before .before .before .before .before .before .before .before .before .before .before .before .before .before .before .before .before .before .code .inv) (c .before .before .before .before .before .before .before .before .before .before .before .before .before .before .before .before .before .before .before .before .before .before .before .before .pass-first .result) _ _ (c .before .before .before .before .before .before .before .before .before .before .before .before .before .before .before .before .before .before .before .before .before .before .before .before .pass-first .ensures) (c .before .before .before .before .before .before .before .before .before .before .before .before .before .before .before .before .before .before .before .before .before .before .k .given .1))) (c .before .before .before .before .before .before .before .before .before .before .before .before .before .before .act .ensures)) .few, c .before .before .before .before .before .before .before .before .before .if4 .left, c .before .before .before .before .before .before .before .before .before .before .before .before .before .before .before .before .before .before .before .before .before .before .before .before .before .before .before .before .before .before .good .0)
+add-refused c = omega (arith, stretched (c .before .before .before .before .before .before .before .before .before .before .before .before .before .before) .few, c .before .before .before .before .before .before .before .before .before .if4 .left, c .before .before .before .before .before .before .before .before .before .before .before .before .before .before .before .before .before .before .before .before .before .before .before .before .before .before .before .before .before .before .good .0)
 
 refused-requires : tie.Need-refused-requires Inv-loop μ-loop Inv-code μ-code
-refused-requires c κs = leapt-refused (fusing-stretches (c .before .before .before .before .before .before .before .before .before .before .before .before .before .before .before .before .before .before .before .before .loop .inv .2 _ _ (fusing-first (c .before .before .before .before .before .before .before .before .before .before .before .before .before .before .before .before .before .before .before .before .before .before .before .before .before .before .before .code .inv) (c .before .before .before .before .before .before .before .before .before .before .before .before .before .before .before .before .before .before .before .before .before .before .before .before .pass-first .result) _ _ (c .before .before .before .before .before .before .before .before .before .before .before .before .before .before .before .before .before .before .before .before .before .before .before .before .pass-first .ensures) (c .before .before .before .before .before .before .before .before .before .before .before .before .before .before .before .before .before .before .before .before .before .before .k .given .1))) (c .before .before .before .before .before .before .before .before .before .before .before .before .before .before .act .ensures)) _ _ (c .before .before .before .before .before .before .advance-ahead .result) _ _ (c .before .before .before .before .before .before .advance-ahead .ensures) (c .before .before .m2 .given .1) .small
+refused-requires c κs = leapt-refused (stretched (c .before .before .before .before .before .before .before .before .before .before .before .before .before .before)) _ _ (c .before .before .before .before .before .before .advance-ahead .result) _ _ (c .before .before .before .before .before .before .advance-ahead .ensures) (c .before .before .m2 .given .1) .small
 
 returns-3 : tie.Need-returns-3 Inv-loop μ-loop Inv-code μ-code
 returns-3 c =
-    let inv = fusing-stretches (c .before .before .before .before .before .before .before .before .before .before .before .before .before .before .before .before .before .before .before .before .before .loop .inv .2 _ _ (fusing-first (c .before .before .before .before .before .before .before .before .before .before .before .before .before .before .before .before .before .before .before .before .before .before .before .before .before .before .before .before .code .inv) (c .before .before .before .before .before .before .before .before .before .before .before .before .before .before .before .before .before .before .before .before .before .before .before .before .before .pass-first .result) _ _ (c .before .before .before .before .before .before .before .before .before .before .before .before .before .before .before .before .before .before .before .before .before .before .before .before .before .pass-first .ensures) (c .before .before .before .before .before .before .before .before .before .before .before .before .before .before .before .before .before .before .before .before .before .before .before .k .given .1))) (c .before .before .before .before .before .before .before .before .before .before .before .before .before .before .before .act .ensures) in
+    let inv = stretched (c .before .before .before .before .before .before .before .before .before .before .before .before .before .before .before) in
     fusing-stops inv _ _ (c .before .before .before .before .before .before .before .before .before .before .if4 .left) (leapt-refused inv _ _ (c .before .before .before .before .before .before .before .advance-ahead .result) _ _ (c .before .before .before .before .before .before .before .advance-ahead .ensures) (c .before .before .before .m2 .given .1)) _ (c .refused .result) (c .refused .ensures)
 
 -- that breaks soundness
 returns-4 : tie.Need-returns-4 Inv-loop μ-loop Inv-code μ-code
 returns-4 c =
-    let inv = fusing-stretches (c .before .before .before .before .before .before .before .before .before .before .before .before .before .before .before .before .before .before .before .loop .inv .2 _ _ (fusing-first (c .before .before .before .before .before .before .before .before .before .before .before .before .before .before .before .before .before .before .before .before .before .before .before .before .before .before .code .inv) (c .before .before .before .before .before .before .before .before .before .before .before .before .before .before .before .before .before .before .before .before .before .before .before .pass-first .result) _ _ (c .before .before .before .before .before .before .before .before .before .before .before .before .before .before .before .before .before .before .before .before .before .before .before .pass-first .ensures) (c .before .before .before .before .before .before .before .before .before .before .before .before .before .before .before .before .before .before .before .before .before .k .given .1))) (c .before .before .before .before .before .before .before .before .before .before .before .before .before .act .ensures) in
+    let inv = stretched (c .before .before .before .before .before .before .before .before .before .before .before .before .before) in
     fusing-broken inv (leapt-broken inv _ _ (c .before .before .before .before .before .advance-ahead .result) (c .before .before .before .before .before .advance-ahead .ensures) (c .before .enum-told2 .given .1)) (omega (arith, c .before .before .before .before .before .before .before .before .if4 .left)) _ (c .broken2 .result) (c .broken2 .ensures)
 
 -- the code ends
@@ -132,24 +143,11 @@ returns-5 c = fusing-ends (c .before .before .before .before .before .code .inv)
 returns-6 : tie.Need-returns-6 Inv-loop μ-loop Inv-code μ-code
 returns-6 c = (fusing-misses (c .before .before .before .before .before .code .inv) (c .before .before .before .if1 .left) (sym (c .if5 .left) ∙ c .before .complete .ensures), omega arith)
 
--- the slices stay as long as they are
-same-length-5 : tie.Need-same-length-5 Inv-loop μ-loop Inv-code μ-code
-same-length-5 c = let inv = fusing-stretches (c .before .before .before .before .before .before .before .before .before .before .before .before .before .before .before .before .before .before .before .before .before .loop .inv .2 _ _ (fusing-first (c .before .before .before .before .before .before .before .before .before .before .before .before .before .before .before .before .before .before .before .before .before .before .before .before .before .before .before .before .code .inv) (c .before .before .before .before .before .before .before .before .before .before .before .before .before .before .before .before .before .before .before .before .before .before .before .before .before .pass-first .result) _ _ (c .before .before .before .before .before .before .before .before .before .before .before .before .before .before .before .before .before .before .before .before .before .before .before .before .before .pass-first .ensures) (c .before .before .before .before .before .before .before .before .before .before .before .before .before .before .before .before .before .before .before .before .before .before .before .k .given .1))) (c .before .before .before .before .before .before .before .before .before .before .before .before .before .before .before .act .ensures) in search (needs, inv .going .wide, inv .going .deep)
-
-same-length-6 : tie.Need-same-length-6 Inv-loop μ-loop Inv-code μ-code
-same-length-6 c = let inv = fusing-stretches (c .before .before .before .before .before .before .before .before .before .before .before .before .before .before .before .before .before .before .before .before .before .loop .inv .2 _ _ (fusing-first (c .before .before .before .before .before .before .before .before .before .before .before .before .before .before .before .before .before .before .before .before .before .before .before .before .before .before .before .before .code .inv) (c .before .before .before .before .before .before .before .before .before .before .before .before .before .before .before .before .before .before .before .before .before .before .before .before .before .pass-first .result) _ _ (c .before .before .before .before .before .before .before .before .before .before .before .before .before .before .before .before .before .before .before .before .before .before .before .before .before .pass-first .ensures) (c .before .before .before .before .before .before .before .before .before .before .before .before .before .before .before .before .before .before .before .before .before .before .before .k .given .1))) (c .before .before .before .before .before .before .before .before .before .before .before .before .before .before .before .act .ensures) in search (needs, inv .going .wide, inv .going .deep)
-
-same-length-7 : tie.Need-same-length-7 Inv-loop μ-loop Inv-code μ-code
-same-length-7 c = let inv = fusing-stretches (c .before .before .before .before .before .before .before .before .before .before .before .before .before .before .before .before .before .before .before .loop .inv .2 _ _ (fusing-first (c .before .before .before .before .before .before .before .before .before .before .before .before .before .before .before .before .before .before .before .before .before .before .before .before .before .before .code .inv) (c .before .before .before .before .before .before .before .before .before .before .before .before .before .before .before .before .before .before .before .before .before .before .before .pass-first .result) _ _ (c .before .before .before .before .before .before .before .before .before .before .before .before .before .before .before .before .before .before .before .before .before .before .before .pass-first .ensures) (c .before .before .before .before .before .before .before .before .before .before .before .before .before .before .before .before .before .before .before .before .before .k .given .1))) (c .before .before .before .before .before .before .before .before .before .before .before .before .before .act .ensures) in search (needs, inv .going .wide, inv .going .deep)
-
-same-length-8 : tie.Need-same-length-8 Inv-loop μ-loop Inv-code μ-code
-same-length-8 c = let inv = fusing-stretches (c .before .before .before .before .before .before .before .before .before .before .before .before .before .before .before .before .before .before .before .loop .inv .2 _ _ (fusing-first (c .before .before .before .before .before .before .before .before .before .before .before .before .before .before .before .before .before .before .before .before .before .before .before .before .before .before .code .inv) (c .before .before .before .before .before .before .before .before .before .before .before .before .before .before .before .before .before .before .before .before .before .before .before .pass-first .result) _ _ (c .before .before .before .before .before .before .before .before .before .before .before .before .before .before .before .before .before .before .before .before .before .before .before .pass-first .ensures) (c .before .before .before .before .before .before .before .before .before .before .before .before .before .before .before .before .before .before .before .before .before .k .given .1))) (c .before .before .before .before .before .before .before .before .before .before .before .before .before .act .ensures) in search (needs, inv .going .wide, inv .going .deep)
-
 pub run-in-spec : {M : Type 1} → statement M
 run-in-spec =
     tie.close
     (tie.spec Inv-loop μ-loop Inv-code μ-code
     initial-requires code-holds pass-first-requires (λ c. search needs) add-steps (λ c. search needs) (λ c. search needs) (λ c. search needs) returns (λ c. search needs) (λ c κs. search needs) (λ c. search needs) (λ c. search needs) returns-2
-    (λ c. (omega arith, inr refl, λ cur₁ vals₁ f. f)) code-less code-again code-less-2 code-again-2 act-requires add-steps-2 code-less-3 code-again-3 advance-ahead-requires (λ c. search needs) add-steps-3 loop-less loop-again
-    (λ c. search needs) add-refused refused-requires same-length-5 same-length-6 returns-3 (λ c. search needs) (λ c κs. search needs) same-length-7 same-length-8 returns-4 complete-requires
+    loop-holds code-less code-again code-less-2 code-again-2 act-requires add-steps-2 code-less-3 code-again-3 advance-ahead-requires (λ c. search needs) add-steps-3 loop-less loop-again
+    (λ c. search needs) add-refused refused-requires (λ c. c .before .before .before .before .before .before .before .advance-ahead .kept .1 .1 .1 .1 .0 ∙ stretched (c .before .before .before .before .before .before .before .before .before .before .before .before .before .before .before) .going .wide) (λ c. c .before .before .before .before .before .before .before .advance-ahead .kept .1 .1 .1 .1 .1 .0 ∙ stretched (c .before .before .before .before .before .before .before .before .before .before .before .before .before .before .before) .going .deep) returns-3 (λ c. search needs) (λ c κs. search needs) (λ c. c .before .before .before .before .before .advance-ahead .kept .1 .1 .1 .1 .0 ∙ stretched (c .before .before .before .before .before .before .before .before .before .before .before .before .before) .going .wide) (λ c. c .before .before .before .before .before .advance-ahead .kept .1 .1 .1 .1 .1 .0 ∙ stretched (c .before .before .before .before .before .before .before .before .before .before .before .before .before) .going .deep) returns-4 complete-requires
     (λ c. search needs) (λ c. search needs) returns-5 (λ c. search needs) (λ c. search needs) returns-6)

@@ -1,7 +1,7 @@
 -- `machine::run_untimed` meets its contract. The outer loop's invariant: what is left to do makes the whole run (Loop.Going); the inner loop keeps it. The
 -- measure is the budget left: a turn of the outer loop passes something over, or its inner loop does something. Assumes nothing.
 use mathlib.Core.Path.{_≡_, refl, sym, ap, subst, _∙_}
-use mathlib.Core.Bool.{Bool, false≢true}
+use mathlib.Core.Bool.{Bool, false, false≢true}
 use mathlib.Core.List.{List}
 use mathlib.Core.Logic.{_⊎_, inl, inr, ⊎-elim}
 use Prim.Native.Nat.{_+_, _-_, _≤_, _<_}
@@ -9,6 +9,7 @@ use native.Mathlib.Omega.{arith}
 use lib.IntN.{ℤ}
 use borrow.Author.Needs.{needs}
 use Rattle.machine.specs.declared.Registers.{Registers}
+use Rattle.machine.specs.declared.passing.Passing.the-variants as P
 use Rattle.machine.specs.Inner.Memory.{RangedIn, NamedIn}
 use Rattle.machine.specs.Inner.Dispatch.{registers, restingAt}
 use Rattle.machine.specs.Inner.Passing.{FirstBy}
@@ -53,13 +54,18 @@ returns c = so-ran (c .resting .ensures) (rests-behind (c .before .before .befor
 
 -- ---- what is passed over
 
+first : (c : tie.After-known-told Inv-loop2 μ-loop2 Inv-loop μ-loop) → FirstBy (c .before .before .before .before .before .before .before .before .args .code .now) (c .before .before .before .before .before .before .loop .at) (c .before .before .before .before .before .before .loop .passing) (c .before .before .before .before .before .before .before .before .args .budget - c .before .before .before .before .before .before .loop .done) (P.On (c .before .p .given .0 .0) (c .before .p .given .0 .1 .0) (c .before .p .given .0 .1 .1 .0))
+first c = subst (λ x. FirstBy (c .before .before .before .before .before .before .before .before .args .code .now) (c .before .before .before .before .before .before .loop .at) (c .before .before .before .before .before .before .loop .passing) (c .before .before .before .before .before .before .before .before .args .budget - c .before .before .before .before .before .before .loop .done) x) (c .before .p .given .1) (c .before .before .before .pass-first .ensures)
+
+far : (c : tie.After-known-told Inv-loop2 μ-loop2 Inv-loop μ-loop) → (c .before .before .before .before .before .before .loop .done + c .before .p .given .0 .1 .1 .0 ≤ c .before .before .before .before .before .before .before .before .args .budget) × ((c .before .before .before .before .before .before .loop .done < c .before .before .before .before .before .before .loop .done + c .before .p .given .0 .1 .1 .0) ⊎ (c .before .p .given .0 .0 ≡ false))
+far c = first-far (c .before .before .before .before .before .before .loop .inv) _ _ _ (c .before .before .before .before .before .before .loop .passing) (first c)
+
 pass-first-requires : tie.Need-pass-first-requires Inv-loop2 μ-loop2 Inv-loop μ-loop
 pass-first-requires c κs = (omega (arith, c .if1 .left), omega (arith, c .before .loop-test .taken))
 
 add-done : tie.Need-add-done Inv-loop2 μ-loop2 Inv-loop μ-loop
 add-done c =
-    let far = first-far (c .before .before .before .before .before .before .loop .inv) _ _ _ (c .before .before .before .before .before .before .loop .passing) (subst (λ x. FirstBy (c .before .before .before .before .before .before .before .before .args .code .now) (c .before .before .before .before .before .before .loop .at) (c .before .before .before .before .before .before .loop .passing) (c .before .before .before .before .before .before .before .before .args .budget - c .before .before .before .before .before .before .loop .done) x) (c .before .p .given .1) (c .before .before .before .pass-first .ensures)) in
-    record { fits = omega (arith, far .0) }
+    record { fits = omega (arith, far c .0) }
 
 returns-2 : tie.Need-returns-2 Inv-loop2 μ-loop2 Inv-loop μ-loop
 returns-2 c =
@@ -68,50 +74,64 @@ returns-2 c =
 
 -- ---- the inner loop
 
+-- a turn of it, at these registers
+abbrev Turn : tie.At-loop2 Inv-loop2 μ-loop2 Inv-loop μ-loop → Registers → Type 0
+Turn c k =
+    let a = c .before .before .before .before .before .before .before .before .before .args in
+    Going (a .code .now) (RangedIn (a .low .now) (a .high .now)) (a .low .now) (a .high .now) (a .prev .now) (a .cur .now) (a .vals .now) (a .from) (a .budget) (a .m) (c .loop2 .cur) (c .loop2 .vals) k (c .loop2 .at) (c .loop2 .done)
+
+going : (c : tie.At-loop2 Inv-loop2 μ-loop2 Inv-loop μ-loop) → Turn c (registers (c .loop2 .held) (c .loop2 .picked) (c .loop2 .passing))
+going c = c .loop2 .inv .2 _ _ _ (passed-by (c .before .before .before .before .before .before .before .loop .inv) (c .before .before .before .before .before .before .loop-test .taken) _ _ _ (c .before .before .before .before .before .before .before .loop .passing) refl (first (c .before)))
+
+acting : (c : tie.Else2 Inv-loop2 μ-loop2 Inv-loop μ-loop) → Turn (c .before .before) (registers (c .before .before .loop2 .held) (c .before .before .loop2 .picked) false)
+acting c = stands (going (c .before .before)) (c .if2 .left)
+
+loop2-holds : tie.Need-loop2-holds Inv-loop2 μ-loop2 Inv-loop μ-loop
+loop2-holds c = (omega arith, inr refl, λ cur₁ vals₁ m g. g)
+
 -- it ends with the budget
 loop-less : tie.Need-loop-less Inv-loop2 μ-loop2 Inv-loop μ-loop
 loop-less c = omega (arith, c .loop2-test .left, c .before .before .before .before .before .before .before .loop-test .taken)
 
 loop-again : tie.Need-loop-again Inv-loop2 μ-loop2 Inv-loop μ-loop
-loop-again c = c .before .loop2 .inv .2 _ _ _ (passed-by (c .before .before .before .before .before .before .before .before .loop .inv) (c .before .before .before .before .before .before .before .loop-test .taken) _ _ _ (c .before .before .before .before .before .before .before .before .loop .passing) refl (subst (λ x. FirstBy (c .before .before .before .before .before .before .before .before .before .before .args .code .now) (c .before .before .before .before .before .before .before .before .loop .at) (c .before .before .before .before .before .before .before .before .loop .passing) (c .before .before .before .before .before .before .before .before .before .before .args .budget - c .before .before .before .before .before .before .before .before .loop .done) x) (c .before .before .before .p .given .1) (c .before .before .before .before .before .pass-first .ensures)))
+loop-again c = going (c .before)
 
 -- or where instructions are passed over
 loop-less-2 : tie.Need-loop-less-2 Inv-loop2 μ-loop2 Inv-loop μ-loop
 loop-less-2 c =
-    let far = first-far (c .before .before .before .before .before .before .before .before .before .loop .inv) _ _ _ (c .before .before .before .before .before .before .before .before .before .loop .passing) (subst (λ x. FirstBy (c .before .before .before .before .before .before .before .before .before .before .before .args .code .now) (c .before .before .before .before .before .before .before .before .before .loop .at) (c .before .before .before .before .before .before .before .before .before .loop .passing) (c .before .before .before .before .before .before .before .before .before .before .before .args .budget - c .before .before .before .before .before .before .before .before .before .loop .done) x) (c .before .before .before .before .p .given .1) (c .before .before .before .before .before .before .pass-first .ensures)) in
     let less : c .before .before .before .before .before .before .before .before .before .loop .done < c .before .before .loop2 .done =
-    ⊎-elim (λ l. omega (arith, l, c .before .before .loop2 .inv .0)) (λ e. ⊎-elim (λ l. omega (arith, l)) (λ p. absurd (false≢true (sym e ∙ sym p ∙ c .if2 .taken))) (c .before .before .loop2 .inv .1)) (far .1) in
+    ⊎-elim (λ l. omega (arith, l, c .before .before .loop2 .inv .0)) (λ e. ⊎-elim (λ l. omega (arith, l)) (λ p. absurd (false≢true (sym e ∙ sym p ∙ c .if2 .taken))) (c .before .before .loop2 .inv .1)) (far (c .before .before .before) .1) in
     omega (arith, less, c .before .loop2-test .taken)
 
 loop-again-2 : tie.Need-loop-again-2 Inv-loop2 μ-loop2 Inv-loop μ-loop
-loop-again-2 c = c .before .before .loop2 .inv .2 _ _ _ (passed-by (c .before .before .before .before .before .before .before .before .before .loop .inv) (c .before .before .before .before .before .before .before .before .loop-test .taken) _ _ _ (c .before .before .before .before .before .before .before .before .before .loop .passing) refl (subst (λ x. FirstBy (c .before .before .before .before .before .before .before .before .before .before .before .args .code .now) (c .before .before .before .before .before .before .before .before .before .loop .at) (c .before .before .before .before .before .before .before .before .before .loop .passing) (c .before .before .before .before .before .before .before .before .before .before .before .args .budget - c .before .before .before .before .before .before .before .before .before .loop .done) x) (c .before .before .before .before .p .given .1) (c .before .before .before .before .before .before .pass-first .ensures)))
+loop-again-2 c = going (c .before .before)
 
 returns-3 : tie.Need-returns-3 Inv-loop2 μ-loop2 Inv-loop μ-loop
 returns-3 c =
-    let g = c .before .before .before .before .loop2 .inv .2 _ _ _ (passed-by (c .before .before .before .before .before .before .before .before .before .before .before .loop .inv) (c .before .before .before .before .before .before .before .before .before .before .loop-test .taken) _ _ _ (c .before .before .before .before .before .before .before .before .before .before .before .loop .passing) refl (subst (λ x. FirstBy (c .before .before .before .before .before .before .before .before .before .before .before .before .before .args .code .now) (c .before .before .before .before .before .before .before .before .before .before .before .loop .at) (c .before .before .before .before .before .before .before .before .before .before .before .loop .passing) (c .before .before .before .before .before .before .before .before .before .before .before .before .before .args .budget - c .before .before .before .before .before .before .before .before .before .before .before .loop .done) x) (c .before .before .before .before .before .before .p .given .1) (c .before .before .before .before .before .before .before .before .pass-first .ensures))) in
+    let g = going (c .before .before .before .before) in
     so-ran (c .resting2 .ensures) (rests-behind g _ _ (λ ns q. q .ranged) (c .before .if3 .taken))
 
 dispatch-requires : tie.Need-dispatch-requires Inv-loop2 μ-loop2 Inv-loop μ-loop
 dispatch-requires c κs =
-    let g = stands (c .before .before .before .before .before .loop2 .inv .2 _ _ _ (passed-by (c .before .before .before .before .before .before .before .before .before .before .before .before .loop .inv) (c .before .before .before .before .before .before .before .before .before .before .before .loop-test .taken) _ _ _ (c .before .before .before .before .before .before .before .before .before .before .before .before .loop .passing) refl (subst (λ x. FirstBy (c .before .before .before .before .before .before .before .before .before .before .before .before .before .before .args .code .now) (c .before .before .before .before .before .before .before .before .before .before .before .before .loop .at) (c .before .before .before .before .before .before .before .before .before .before .before .before .loop .passing) (c .before .before .before .before .before .before .before .before .before .before .before .before .before .before .args .budget - c .before .before .before .before .before .before .before .before .before .before .before .before .loop .done) x) (c .before .before .before .before .before .before .before .p .given .1) (c .before .before .before .before .before .before .before .before .before .pass-first .ensures)))) (c .before .before .before .if2 .left) in
+    let g = acting (c .before .before .before) in
     ((omega (arith, c .before .before .if3 .left), g .stack .few, g .stack .room, omega (arith, c .before .before .before .before .loop2-test .taken)), g .named)
 
 add-done-2 : tie.Need-add-done-2 Inv-loop2 μ-loop2 Inv-loop μ-loop
 add-done-2 c =
-    let g = stands (c .before .before .before .before .before .before .before .before .before .before .before .loop2 .inv .2 _ _ _ (passed-by (c .before .before .before .before .before .before .before .before .before .before .before .before .before .before .before .before .before .before .loop .inv) (c .before .before .before .before .before .before .before .before .before .before .before .before .before .before .before .before .before .loop-test .taken) _ _ _ (c .before .before .before .before .before .before .before .before .before .before .before .before .before .before .before .before .before .before .loop .passing) refl (subst (λ x. FirstBy (c .before .before .before .before .before .before .before .before .before .before .before .before .before .before .before .before .before .before .before .before .args .code .now) (c .before .before .before .before .before .before .before .before .before .before .before .before .before .before .before .before .before .before .loop .at) (c .before .before .before .before .before .before .before .before .before .before .before .before .before .before .before .before .before .before .loop .passing) (c .before .before .before .before .before .before .before .before .before .before .before .before .before .before .before .before .before .before .before .before .args .budget - c .before .before .before .before .before .before .before .before .before .before .before .before .before .before .before .before .before .before .loop .done) x) (c .before .before .before .before .before .before .before .before .before .before .before .before .before .p .given .1) (c .before .before .before .before .before .before .before .before .before .before .before .before .before .before .before .pass-first .ensures)))) (c .before .before .before .before .before .before .before .before .before .if2 .left) in
+    let g = acting (c .before .before .before .before .before .before .before .before .before) in
     let d = went g _ _ (c .before .before .before .before .before .dispatch .result) (c .before .before .before .before .before .dispatch .ensures) _ _ _ _ _ (c .before .h .given .1) in
     let w : c .before .before .before .before .before .before .before .before .before .before .before .loop2 .done + c .before .h .given .0 .1 .1 .1 .1 .0 ≤ c .before .before .before .before .before .before .before .before .before .before .before .before .before .before .before .before .before .before .before .before .args .budget = omega (arith, d .no-more, g .within) in
     record { fits = omega (arith, w, c .before .before .before .before .before .before .before .before .before .before .before .before .before .before .before .before .before .before .before .before .good .1 .1 .1 .1 .1 .1 .1 .1 .1) }
 
 loop2-less : tie.Need-loop2-less Inv-loop2 μ-loop2 Inv-loop μ-loop
 loop2-less c =
-    let g = stands (c .before .before .before .before .before .before .before .before .before .before .before .loop2 .inv .2 _ _ _ (passed-by (c .before .before .before .before .before .before .before .before .before .before .before .before .before .before .before .before .before .before .loop .inv) (c .before .before .before .before .before .before .before .before .before .before .before .before .before .before .before .before .before .loop-test .taken) _ _ _ (c .before .before .before .before .before .before .before .before .before .before .before .before .before .before .before .before .before .before .loop .passing) refl (subst (λ x. FirstBy (c .before .before .before .before .before .before .before .before .before .before .before .before .before .before .before .before .before .before .before .before .args .code .now) (c .before .before .before .before .before .before .before .before .before .before .before .before .before .before .before .before .before .before .loop .at) (c .before .before .before .before .before .before .before .before .before .before .before .before .before .before .before .before .before .before .loop .passing) (c .before .before .before .before .before .before .before .before .before .before .before .before .before .before .before .before .before .before .before .before .args .budget - c .before .before .before .before .before .before .before .before .before .before .before .before .before .before .before .before .before .before .loop .done) x) (c .before .before .before .before .before .before .before .before .before .before .before .before .before .p .given .1) (c .before .before .before .before .before .before .before .before .before .before .before .before .before .before .before .pass-first .ensures)))) (c .before .before .before .before .before .before .before .before .before .if2 .left) in
+    let g = acting (c .before .before .before .before .before .before .before .before .before) in
     let d = went g _ _ (c .before .before .before .before .before .dispatch .result) (c .before .before .before .before .before .dispatch .ensures) _ _ _ _ _ (c .before .h .given .1) in
     omega (arith, d .some-done, d .no-more, c .before .before .before .before .before .before .before .before .before .before .loop2-test .taken)
 
 loop2-again : tie.Need-loop2-again Inv-loop2 μ-loop2 Inv-loop μ-loop
 loop2-again c =
-    let g = stands (c .before .before .before .before .before .before .before .before .before .before .before .loop2 .inv .2 _ _ _ (passed-by (c .before .before .before .before .before .before .before .before .before .before .before .before .before .before .before .before .before .before .loop .inv) (c .before .before .before .before .before .before .before .before .before .before .before .before .before .before .before .before .before .loop-test .taken) _ _ _ (c .before .before .before .before .before .before .before .before .before .before .before .before .before .before .before .before .before .before .loop .passing) refl (subst (λ x. FirstBy (c .before .before .before .before .before .before .before .before .before .before .before .before .before .before .before .before .before .before .before .before .args .code .now) (c .before .before .before .before .before .before .before .before .before .before .before .before .before .before .before .before .before .before .loop .at) (c .before .before .before .before .before .before .before .before .before .before .before .before .before .before .before .before .before .before .loop .passing) (c .before .before .before .before .before .before .before .before .before .before .before .before .before .before .before .before .before .before .before .before .args .budget - c .before .before .before .before .before .before .before .before .before .before .before .before .before .before .before .before .before .before .loop .done) x) (c .before .before .before .before .before .before .before .before .before .before .before .before .before .p .given .1) (c .before .before .before .before .before .before .before .before .before .before .before .before .before .before .before .pass-first .ensures)))) (c .before .before .before .before .before .before .before .before .before .if2 .left) in
+    let g = acting (c .before .before .before .before .before .before .before .before .before) in
     let d = went g _ _ (c .before .before .before .before .before .dispatch .result) (c .before .before .before .before .before .dispatch .ensures) _ _ _ _ _ (c .before .h .given .1) in (
       omega (arith, c .before .before .before .before .before .before .before .before .before .before .before .loop2 .inv .0),
       inl (omega (arith, c .before .before .before .before .before .before .before .before .before .before .before .loop2 .inv .0, d .some-done)),
@@ -122,60 +142,34 @@ loop2-again c =
 
 returns-4 : tie.Need-returns-4 Inv-loop2 μ-loop2 Inv-loop μ-loop
 returns-4 c =
-    let g = stands (c .before .before .before .before .before .before .before .before .before .before .before .before .loop2 .inv .2 _ _ _ (passed-by (c .before .before .before .before .before .before .before .before .before .before .before .before .before .before .before .before .before .before .before .loop .inv) (c .before .before .before .before .before .before .before .before .before .before .before .before .before .before .before .before .before .before .loop-test .taken) _ _ _ (c .before .before .before .before .before .before .before .before .before .before .before .before .before .before .before .before .before .before .before .loop .passing) refl (subst (λ x. FirstBy (c .before .before .before .before .before .before .before .before .before .before .before .before .before .before .before .before .before .before .before .before .before .args .code .now) (c .before .before .before .before .before .before .before .before .before .before .before .before .before .before .before .before .before .before .before .loop .at) (c .before .before .before .before .before .before .before .before .before .before .before .before .before .before .before .before .before .before .before .loop .passing) (c .before .before .before .before .before .before .before .before .before .before .before .before .before .before .before .before .before .before .before .before .before .args .budget - c .before .before .before .before .before .before .before .before .before .before .before .before .before .before .before .before .before .before .before .loop .done) x) (c .before .before .before .before .before .before .before .before .before .before .before .before .before .before .p .given .1) (c .before .before .before .before .before .before .before .before .before .before .before .before .before .before .before .before .pass-first .ensures)))) (c .before .before .before .before .before .before .before .before .before .before .if2 .left) in
+    let g = acting (c .before .before .before .before .before .before .before .before .before .before) in
     let d = halted g _ _ (c .before .before .before .before .before .before .dispatch .result) (c .before .before .before .before .before .before .dispatch .ensures) _ (c .before .before .number .given .1) in
     so-ran (c .refused2 .ensures) (stops g _ _ (λ ns q. q .ranged) (c .before .before .before .before .before .before .before .before .before .before .before .loop2-test .taken) _ (λ ns budget done q. d ns budget done (q .ranged)) _ _)
 
 returns-5 : tie.Need-returns-5 Inv-loop2 μ-loop2 Inv-loop μ-loop
 returns-5 c =
     let a = c .before .before .before .before .before .before .before .before .before .before .before .before .before .before .before .before .before .before .before .before .before .args in
-    let g = stands (c .before .before .before .before .before .before .before .before .before .before .before .before .loop2 .inv .2 _ _ _ (passed-by (c .before .before .before .before .before .before .before .before .before .before .before .before .before .before .before .before .before .before .before .loop .inv) (c .before .before .before .before .before .before .before .before .before .before .before .before .before .before .before .before .before .before .loop-test .taken) _ _ _ (c .before .before .before .before .before .before .before .before .before .before .before .before .before .before .before .before .before .before .before .loop .passing) refl (subst (λ x. FirstBy (c .before .before .before .before .before .before .before .before .before .before .before .before .before .before .before .before .before .before .before .before .before .args .code .now) (c .before .before .before .before .before .before .before .before .before .before .before .before .before .before .before .before .before .before .before .loop .at) (c .before .before .before .before .before .before .before .before .before .before .before .before .before .before .before .before .before .before .before .loop .passing) (c .before .before .before .before .before .before .before .before .before .before .before .before .before .before .before .before .before .before .before .before .before .args .budget - c .before .before .before .before .before .before .before .before .before .before .before .before .before .before .before .before .before .before .before .loop .done) x) (c .before .before .before .before .before .before .before .before .before .before .before .before .before .before .p .given .1) (c .before .before .before .before .before .before .before .before .before .before .before .before .before .before .before .before .pass-first .ensures)))) (c .before .before .before .before .before .before .before .before .before .before .if2 .left) in
+    let g = acting (c .before .before .before .before .before .before .before .before .before .before) in
     let t = timer-at g _ _ (c .before .before .before .before .before .before .dispatch .result) (c .before .before .before .before .before .before .dispatch .ensures) (c .before .before .enum-told2 .given .1) in
     so-ran (c .refused3 .ensures) (stops g _ _ (λ ns q. q .ranged) (c .before .before .before .before .before .before .before .before .before .before .before .loop2-test .taken) _
     (timer-stops (a .code .now) (NamedIn (a .low .now) (a .high .now) (a .names)) (a .prev .now) (c .before .before .before .before .before .before .before .before .before .before .before .before .loop2 .at) _ _ _ (omega (arith, c .before .before .before .before .before .before .before .before .before .if3 .left)) (t .byte) (t .acting) (λ ns q. omega (arith, names-length (ns .ranges) (a .low .now) (a .high .now) (q .ranged), q .named, g .named .previous, c .before .if4 .taken))) _ _)
 
 returns-6 : tie.Need-returns-6 Inv-loop2 μ-loop2 Inv-loop μ-loop
 returns-6 c =
-    let g = stands (c .before .before .before .before .before .before .before .before .before .before .before .before .loop2 .inv .2 _ _ _ (passed-by (c .before .before .before .before .before .before .before .before .before .before .before .before .before .before .before .before .before .before .before .loop .inv) (c .before .before .before .before .before .before .before .before .before .before .before .before .before .before .before .before .before .before .loop-test .taken) _ _ _ (c .before .before .before .before .before .before .before .before .before .before .before .before .before .before .before .before .before .before .before .loop .passing) refl (subst (λ x. FirstBy (c .before .before .before .before .before .before .before .before .before .before .before .before .before .before .before .before .before .before .before .before .before .args .code .now) (c .before .before .before .before .before .before .before .before .before .before .before .before .before .before .before .before .before .before .before .loop .at) (c .before .before .before .before .before .before .before .before .before .before .before .before .before .before .before .before .before .before .before .loop .passing) (c .before .before .before .before .before .before .before .before .before .before .before .before .before .before .before .before .before .before .before .before .before .args .budget - c .before .before .before .before .before .before .before .before .before .before .before .before .before .before .before .before .before .before .before .loop .done) x) (c .before .before .before .before .before .before .before .before .before .before .before .before .before .before .p .given .1) (c .before .before .before .before .before .before .before .before .before .before .before .before .before .before .before .before .pass-first .ensures)))) (c .before .before .before .before .before .before .before .before .before .before .if2 .left) in
+    let g = acting (c .before .before .before .before .before .before .before .before .before .before) in
     let t = timer-at g _ _ (c .before .before .before .before .before .before .dispatch .result) (c .before .before .before .before .before .before .dispatch .ensures) (c .before .before .enum-told2 .given .1) in
     so-ran (c .resting3 .ensures ∙ ap (λ (b : Bool). restingAt (c .before .before .before .before .before .before .before .before .before .before .before .before .loop2 .done) (c .before .before .before .before .before .before .before .before .before .before .before .before .loop2 .at) (registers (c .before .before .before .before .before .before .before .before .before .before .before .before .loop2 .held) (c .before .before .before .before .before .before .before .before .before .before .before .before .loop2 .picked) b)) (c .before .before .before .before .before .before .before .before .before .before .if2 .left)) (rests-timed g _ _ (λ ns q. q .ranged) _ _ t (c .before .if4 .left))
 
 returns-7 : tie.Need-returns-7 Inv-loop2 μ-loop2 Inv-loop μ-loop
 returns-7 c = so-ran (c .resting4 .ensures) (rests-spent (c .before .before .loop .inv) _ _ (λ ns q. q .ranged) (c .before .loop-test .left))
 
--- lengths stay
-
-same-length-5 : tie.Need-same-length-5 Inv-loop2 μ-loop2 Inv-loop μ-loop
-same-length-5 c = let g = c .before .before .before .before .loop2 .inv .2 _ _ _ (passed-by (c .before .before .before .before .before .before .before .before .before .before .before .loop .inv) (c .before .before .before .before .before .before .before .before .before .before .loop-test .taken) _ _ _ (c .before .before .before .before .before .before .before .before .before .before .before .loop .passing) refl (subst (λ x. FirstBy (c .before .before .before .before .before .before .before .before .before .before .before .before .before .args .code .now) (c .before .before .before .before .before .before .before .before .before .before .before .loop .at) (c .before .before .before .before .before .before .before .before .before .before .before .loop .passing) (c .before .before .before .before .before .before .before .before .before .before .before .before .before .args .budget - c .before .before .before .before .before .before .before .before .before .before .before .loop .done) x) (c .before .before .before .before .before .before .p .given .1) (c .before .before .before .before .before .before .before .before .pass-first .ensures))) in g .wide
-
-same-length-6 : tie.Need-same-length-6 Inv-loop2 μ-loop2 Inv-loop μ-loop
-same-length-6 c = let g = c .before .before .before .before .loop2 .inv .2 _ _ _ (passed-by (c .before .before .before .before .before .before .before .before .before .before .before .loop .inv) (c .before .before .before .before .before .before .before .before .before .before .loop-test .taken) _ _ _ (c .before .before .before .before .before .before .before .before .before .before .before .loop .passing) refl (subst (λ x. FirstBy (c .before .before .before .before .before .before .before .before .before .before .before .before .before .args .code .now) (c .before .before .before .before .before .before .before .before .before .before .before .loop .at) (c .before .before .before .before .before .before .before .before .before .before .before .loop .passing) (c .before .before .before .before .before .before .before .before .before .before .before .before .before .args .budget - c .before .before .before .before .before .before .before .before .before .before .before .loop .done) x) (c .before .before .before .before .before .before .p .given .1) (c .before .before .before .before .before .before .before .before .pass-first .ensures))) in g .deep
-
-same-length-7 : tie.Need-same-length-7 Inv-loop2 μ-loop2 Inv-loop μ-loop
-same-length-7 c = let g = c .before .before .before .before .before .before .before .before .before .before .before .before .loop2 .inv .2 _ _ _ (passed-by (c .before .before .before .before .before .before .before .before .before .before .before .before .before .before .before .before .before .before .before .loop .inv) (c .before .before .before .before .before .before .before .before .before .before .before .before .before .before .before .before .before .before .loop-test .taken) _ _ _ (c .before .before .before .before .before .before .before .before .before .before .before .before .before .before .before .before .before .before .before .loop .passing) refl (subst (λ x. FirstBy (c .before .before .before .before .before .before .before .before .before .before .before .before .before .before .before .before .before .before .before .before .before .args .code .now) (c .before .before .before .before .before .before .before .before .before .before .before .before .before .before .before .before .before .before .before .loop .at) (c .before .before .before .before .before .before .before .before .before .before .before .before .before .before .before .before .before .before .before .loop .passing) (c .before .before .before .before .before .before .before .before .before .before .before .before .before .before .before .before .before .before .before .before .before .args .budget - c .before .before .before .before .before .before .before .before .before .before .before .before .before .before .before .before .before .before .before .loop .done) x) (c .before .before .before .before .before .before .before .before .before .before .before .before .before .before .p .given .1) (c .before .before .before .before .before .before .before .before .before .before .before .before .before .before .before .before .pass-first .ensures))) in c .before .before .before .before .before .before .dispatch .kept .1 .1 .1 .1 .0 ∙ g .wide
-
-same-length-8 : tie.Need-same-length-8 Inv-loop2 μ-loop2 Inv-loop μ-loop
-same-length-8 c = let g = c .before .before .before .before .before .before .before .before .before .before .before .before .loop2 .inv .2 _ _ _ (passed-by (c .before .before .before .before .before .before .before .before .before .before .before .before .before .before .before .before .before .before .before .loop .inv) (c .before .before .before .before .before .before .before .before .before .before .before .before .before .before .before .before .before .before .loop-test .taken) _ _ _ (c .before .before .before .before .before .before .before .before .before .before .before .before .before .before .before .before .before .before .before .loop .passing) refl (subst (λ x. FirstBy (c .before .before .before .before .before .before .before .before .before .before .before .before .before .before .before .before .before .before .before .before .before .args .code .now) (c .before .before .before .before .before .before .before .before .before .before .before .before .before .before .before .before .before .before .before .loop .at) (c .before .before .before .before .before .before .before .before .before .before .before .before .before .before .before .before .before .before .before .loop .passing) (c .before .before .before .before .before .before .before .before .before .before .before .before .before .before .before .before .before .before .before .before .before .args .budget - c .before .before .before .before .before .before .before .before .before .before .before .before .before .before .before .before .before .before .before .loop .done) x) (c .before .before .before .before .before .before .before .before .before .before .before .before .before .before .p .given .1) (c .before .before .before .before .before .before .before .before .before .before .before .before .before .before .before .before .pass-first .ensures))) in c .before .before .before .before .before .before .dispatch .kept .1 .1 .1 .1 .1 .0 ∙ g .deep
-
-same-length-9 : tie.Need-same-length-9 Inv-loop2 μ-loop2 Inv-loop μ-loop
-same-length-9 c = let g = c .before .before .before .before .before .before .before .before .before .before .before .before .loop2 .inv .2 _ _ _ (passed-by (c .before .before .before .before .before .before .before .before .before .before .before .before .before .before .before .before .before .before .before .loop .inv) (c .before .before .before .before .before .before .before .before .before .before .before .before .before .before .before .before .before .before .loop-test .taken) _ _ _ (c .before .before .before .before .before .before .before .before .before .before .before .before .before .before .before .before .before .before .before .loop .passing) refl (subst (λ x. FirstBy (c .before .before .before .before .before .before .before .before .before .before .before .before .before .before .before .before .before .before .before .before .before .args .code .now) (c .before .before .before .before .before .before .before .before .before .before .before .before .before .before .before .before .before .before .before .loop .at) (c .before .before .before .before .before .before .before .before .before .before .before .before .before .before .before .before .before .before .before .loop .passing) (c .before .before .before .before .before .before .before .before .before .before .before .before .before .before .before .before .before .before .before .before .before .args .budget - c .before .before .before .before .before .before .before .before .before .before .before .before .before .before .before .before .before .before .before .loop .done) x) (c .before .before .before .before .before .before .before .before .before .before .before .before .before .before .p .given .1) (c .before .before .before .before .before .before .before .before .before .before .before .before .before .before .before .before .pass-first .ensures))) in c .before .before .before .before .before .before .dispatch .kept .1 .1 .1 .1 .0 ∙ g .wide
-
-same-length-10 : tie.Need-same-length-10 Inv-loop2 μ-loop2 Inv-loop μ-loop
-same-length-10 c = let g = c .before .before .before .before .before .before .before .before .before .before .before .before .loop2 .inv .2 _ _ _ (passed-by (c .before .before .before .before .before .before .before .before .before .before .before .before .before .before .before .before .before .before .before .loop .inv) (c .before .before .before .before .before .before .before .before .before .before .before .before .before .before .before .before .before .before .loop-test .taken) _ _ _ (c .before .before .before .before .before .before .before .before .before .before .before .before .before .before .before .before .before .before .before .loop .passing) refl (subst (λ x. FirstBy (c .before .before .before .before .before .before .before .before .before .before .before .before .before .before .before .before .before .before .before .before .before .args .code .now) (c .before .before .before .before .before .before .before .before .before .before .before .before .before .before .before .before .before .before .before .loop .at) (c .before .before .before .before .before .before .before .before .before .before .before .before .before .before .before .before .before .before .before .loop .passing) (c .before .before .before .before .before .before .before .before .before .before .before .before .before .before .before .before .before .before .before .before .before .args .budget - c .before .before .before .before .before .before .before .before .before .before .before .before .before .before .before .before .before .before .before .loop .done) x) (c .before .before .before .before .before .before .before .before .before .before .before .before .before .before .p .given .1) (c .before .before .before .before .before .before .before .before .before .before .before .before .before .before .before .before .pass-first .ensures))) in c .before .before .before .before .before .before .dispatch .kept .1 .1 .1 .1 .1 .0 ∙ g .deep
-
-same-length-11 : tie.Need-same-length-11 Inv-loop2 μ-loop2 Inv-loop μ-loop
-same-length-11 c = let g = c .before .before .before .before .before .before .before .before .before .before .before .before .loop2 .inv .2 _ _ _ (passed-by (c .before .before .before .before .before .before .before .before .before .before .before .before .before .before .before .before .before .before .before .loop .inv) (c .before .before .before .before .before .before .before .before .before .before .before .before .before .before .before .before .before .before .loop-test .taken) _ _ _ (c .before .before .before .before .before .before .before .before .before .before .before .before .before .before .before .before .before .before .before .loop .passing) refl (subst (λ x. FirstBy (c .before .before .before .before .before .before .before .before .before .before .before .before .before .before .before .before .before .before .before .before .before .args .code .now) (c .before .before .before .before .before .before .before .before .before .before .before .before .before .before .before .before .before .before .before .loop .at) (c .before .before .before .before .before .before .before .before .before .before .before .before .before .before .before .before .before .before .before .loop .passing) (c .before .before .before .before .before .before .before .before .before .before .before .before .before .before .before .before .before .before .before .before .before .args .budget - c .before .before .before .before .before .before .before .before .before .before .before .before .before .before .before .before .before .before .before .loop .done) x) (c .before .before .before .before .before .before .before .before .before .before .before .before .before .before .p .given .1) (c .before .before .before .before .before .before .before .before .before .before .before .before .before .before .before .before .pass-first .ensures))) in c .before .before .before .before .before .before .dispatch .kept .1 .1 .1 .1 .0 ∙ g .wide
-
-same-length-12 : tie.Need-same-length-12 Inv-loop2 μ-loop2 Inv-loop μ-loop
-same-length-12 c = let g = c .before .before .before .before .before .before .before .before .before .before .before .before .loop2 .inv .2 _ _ _ (passed-by (c .before .before .before .before .before .before .before .before .before .before .before .before .before .before .before .before .before .before .before .loop .inv) (c .before .before .before .before .before .before .before .before .before .before .before .before .before .before .before .before .before .before .loop-test .taken) _ _ _ (c .before .before .before .before .before .before .before .before .before .before .before .before .before .before .before .before .before .before .before .loop .passing) refl (subst (λ x. FirstBy (c .before .before .before .before .before .before .before .before .before .before .before .before .before .before .before .before .before .before .before .before .before .args .code .now) (c .before .before .before .before .before .before .before .before .before .before .before .before .before .before .before .before .before .before .before .loop .at) (c .before .before .before .before .before .before .before .before .before .before .before .before .before .before .before .before .before .before .before .loop .passing) (c .before .before .before .before .before .before .before .before .before .before .before .before .before .before .before .before .before .before .before .before .before .args .budget - c .before .before .before .before .before .before .before .before .before .before .before .before .before .before .before .before .before .before .before .loop .done) x) (c .before .before .before .before .before .before .before .before .before .before .before .before .before .before .p .given .1) (c .before .before .before .before .before .before .before .before .before .before .before .before .before .before .before .before .pass-first .ensures))) in c .before .before .before .before .before .before .dispatch .kept .1 .1 .1 .1 .1 .0 ∙ g .deep
-
 pub run-untimed-spec : {M : Type 1} → statement M
 run-untimed-spec =
     tie.close
     (tie.spec Inv-loop2 μ-loop2 Inv-loop μ-loop loop-holds (λ c κs. search needs) (λ c. search needs) (λ c. search needs) returns (λ c. search needs)
     pass-first-requires (λ c. search needs) add-done (λ c. search needs) (λ c. search needs) (λ c κs. search needs) (λ c. search needs)
-    (λ c. search needs) returns-2 (λ c. (omega arith, inr refl, λ cur₁ vals₁ m g. g)) loop-less loop-again loop-less-2 loop-again-2 (λ c κs. search needs) same-length-5 same-length-6
+    (λ c. search needs) returns-2 loop2-holds loop-less loop-again loop-less-2 loop-again-2 (λ c κs. search needs) (λ c. going (c .before .before .before .before) .wide) (λ c. going (c .before .before .before .before) .deep)
     returns-3 (λ c. search needs) dispatch-requires (λ c. search needs) add-done-2 loop2-less loop2-again (λ c. search needs) (λ c. search needs)
-    (λ c κs. search needs) same-length-7 same-length-8 returns-4 (λ c. search needs) (λ c. search needs) (λ c κs. search needs) same-length-9
-    same-length-10 returns-5 (λ c κs. search needs) same-length-11 same-length-12 returns-6 (λ c κs. search needs) (λ c. search needs)
+    (λ c κs. search needs) (λ c. c .before .before .before .before .before .before .dispatch .kept .1 .1 .1 .1 .0 ∙ going (c .before .before .before .before .before .before .before .before .before .before .before .before) .wide) (λ c. c .before .before .before .before .before .before .dispatch .kept .1 .1 .1 .1 .1 .0 ∙ going (c .before .before .before .before .before .before .before .before .before .before .before .before) .deep) returns-4 (λ c. search needs) (λ c. search needs) (λ c κs. search needs) (λ c. c .before .before .before .before .before .before .dispatch .kept .1 .1 .1 .1 .0 ∙ going (c .before .before .before .before .before .before .before .before .before .before .before .before) .wide)
+    (λ c. c .before .before .before .before .before .before .dispatch .kept .1 .1 .1 .1 .1 .0 ∙ going (c .before .before .before .before .before .before .before .before .before .before .before .before) .deep) returns-5 (λ c κs. search needs) (λ c. c .before .before .before .before .before .before .dispatch .kept .1 .1 .1 .1 .0 ∙ going (c .before .before .before .before .before .before .before .before .before .before .before .before) .wide) (λ c. c .before .before .before .before .before .before .dispatch .kept .1 .1 .1 .1 .1 .0 ∙ going (c .before .before .before .before .before .before .before .before .before .before .before .before) .deep) returns-6 (λ c κs. search needs) (λ c. search needs)
     (λ c. search needs) returns-7)
