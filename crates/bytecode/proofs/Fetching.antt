@@ -10,7 +10,9 @@ use lib.ListN.{length, getD, drop, length-drop, List·getD-eq-default}
 use borrow.Author.Tests.{lt-ltb, le-ltb, ltb-true, eqb-true, ne-eqb}
 use Rattle.leb128.specs.Numbers.{Found, found, none, grouped, numberIn, Read, got, nothing, _then_, below32, numberAt}
 use Rattle.bytecode.specs.Instructions.{Instruction, timer, instructionOf, hasOperand, decoded, fetchOne, timerAt, fetch}
-use Rattle.bytecode.specs.Results.{Bounded}
+use Rattle.bytecode.specs.declared.Plain.{Plain}
+use Rattle.bytecode.specs.declared.Plain.the-variants as P
+use Rattle.bytecode.specs.Results.{Bounded, plainRead, PlainWithin}
 use Rattle.bytecode.proofs.Codes.{unlisted-low, unlisted-high}
 
 -- ---- the bytes of a number
@@ -107,6 +109,27 @@ module _ (bytes : List ℕ) (at : ℕ) where
       go : (b : Bool) → eqb (getD bytes at 0) 23 ≡ b → fetch bytes at ≡ got i next
       go true h = let f : nothing ≡ got i next = sym (timer-unfetched h) ∙ e in let z : _≡_ {A = ℕ} 0 1 = cc in let b : ⊥ = omega arith in absurd b
       go false h = fetch-other h ∙ e
+
+-- ---- an instruction of one operand at most, as a reader of its own answers it
+
+abbrev pub PlainAt : List ℕ → ℕ → Plain → Type 0
+PlainAt bytes at r = (plainRead r ≡ fetchOne bytes at) × PlainWithin (length bytes) at r
+
+module _ (bytes : List ℕ) (at : ℕ) where
+  pub plain-end : length bytes ≤ at → PlainAt bytes at P.Malformed
+  plain-end h = (sym (fetch-none bytes at h), tt)
+
+  module _ (h : at < length bytes) where
+    pub plain-alone : hasOperand (getD bytes at 0) ≡ false → PlainAt bytes at (P.Instruction (getD bytes at 0) 0 (at + 1))
+    plain-alone o = (sym (fetch-alone bytes at h o), record { operand = omega arith; behind = omega arith; inside = omega (arith, h) })
+
+    pub plain-malformed : hasOperand (getD bytes at 0) ≡ true → numberAt bytes (at + 1) ≡ nothing → PlainAt bytes at P.Malformed
+    plain-malformed o e = (sym (fetch-malformed bytes at h o e), tt)
+
+    pub plain-number : (n next : ℕ) → hasOperand (getD bytes at 0) ≡ true → numberAt bytes (at + 1) ≡ got n next → PlainAt bytes at (P.Instruction (getD bytes at 0) n next)
+    plain-number n next o e =
+        let w = number-within bytes (at + 1) n next e in
+        (sym (fetch-number bytes at n next h o e), record { operand = w .operand; behind = omega (arith, w .behind); inside = w .inside })
 
 -- ---- the operands of a 23
 

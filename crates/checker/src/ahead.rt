@@ -3,24 +3,20 @@
 use crate::advance;
 use crate::advance::Advanced;
 use crate::advance::Walk;
+use bytecode::Plain;
 ghost use mathlib.Core.Path.{_≡_};
 ghost use mathlib.Core.Bool.{true};
 ghost use Prim.Native.Nat.{_+_, _<_};
 ghost use lib.ListN.{length};
 ghost use Rattle.bytecode.specs.Instructions.{fetchOne};
+ghost use Rattle.bytecode.specs.Results.{plainRead, PlainWithin};
 ghost use Rattle.checker.specs.Inner.Walk.{Small};
-ghost use Rattle.checker.specs.Inner.Stretches.{plainRead, PlainWithin, withTruth, LeadsTo, TakenBy};
+ghost use Rattle.checker.specs.Inner.Stretches.{withTruth, LeadsTo, TakenBy};
 
 // The walk and the place behind instructions; or the first of them breaks soundness or is a timer.
 pub enum Stretch {
     Taken(Walk, usize),
     Broken,
-}
-
-// A code byte, its operand (0 where it has none) and the place behind; or no code byte, or a malformed operand.
-enum Plain {
-    Instruction(u8, u64, usize),
-    Malformed,
 }
 
 fn wide(x: u8) -> u64

@@ -15,10 +15,11 @@ use Rattle.semantics.specs.Shape.{Setting}
 use Rattle.semantics.proofs.Reference.{length-known}
 use Rattle.leb128.specs.Numbers.{Read, got, nothing}
 use Rattle.leb128.proofs.RoundTrip.{drop-behind}
-use Rattle.bytecode.specs.Instructions.{Instruction, timer, encode, encodeAll, decoded, fetch}
+use Rattle.bytecode.specs.Instructions.{Instruction, encode, encodeAll, decoded, fetchOne}
 use Rattle.bytecode.specs.Translation.{codeC}
-use Rattle.bytecode.specs.Signature.{times}
+use Rattle.bytecode.specs.Signature.{signature}
 use Rattle.bytecode.proofs.RoundTrip.{fetch-encoded, encoded-inside}
+use Rattle.bytecode.proofs.Timeless.{timeless-one}
 use Rattle.machine.specs.declared.Registers.{Registers}
 use Rattle.machine.specs.declared.Stepped.{Stepped}
 use Rattle.machine.specs.declared.Stepped.the-variants.{Next, Refused}
@@ -130,29 +131,18 @@ module _ {code : List ℕ} {s t : State} {c : Condition} {k : Registers} {vals :
       go [] d e = value (evalC s t c) refl e
       go (i ∷ is) d e = let b : ⊥ = omega (arith, encoded-inside code at i (encodeAll is) d) in absurd b
 
-  one-encoded : (i : Instruction) (is : List Instruction) → drop at code ≡ encodeAll (i ∷ is) → Fit (i ∷ is) → fetch code at ≡ got i (at + length (encode i))
-  one-encoded i is d q = fetch-encoded code at i (encodeAll is) (q .0) d
+  one-encoded : (i : Instruction) (is : List Instruction) → drop at code ≡ encodeAll (i ∷ is) → Fit (i ∷ is) → fetchOne code at ≡ got i (at + length (encode i))
+  one-encoded i is d q = timeless-one code at i _ (fetch-encoded code at i (encodeAll is) (q .0) d) (calculates-timeless (signature i .role) (q .1))
 
   -- an instruction that is malformed is never met
-  pub broken : at < length code → nothing ≡ fetch code at → ⊥
+  pub broken : at < length code → nothing ≡ fetchOne code at → ⊥
   broken h f = go (r .rest) (r .spelled) (r .fit)
     where
       go : (is : List Instruction) → drop at code ≡ encodeAll is → Fit is → ⊥
       go [] d q = no-rest code at h d
       go (i ∷ is) d q = none-got (f ∙ one-encoded i is d q)
 
-  -- nor is a timer
-  pub untimed : at < length code → (u w n next : ℕ) → got (timer u w n) next ≡ fetch code at → ⊥
-  untimed h u w n next f = go (r .rest) (r .spelled) (r .fit)
-    where
-      timed-not : (i : Instruction) → Calculates i → timer u w n ≡ i → ⊥
-      timed-not i p e = calculates-timeless (times u w n) (subst (λ (j : Instruction). Calculates j) (sym e) p)
-
-      go : (is : List Instruction) → drop at code ≡ encodeAll is → Fit is → ⊥
-      go [] d q = no-rest code at h d
-      go (i ∷ is) d q = let e : got (timer u w n) next ≡ got i (at + length (encode i)) = f ∙ one-encoded i is d q in timed-not i (q .1) cc
-
-  pub taken : at < length code → (o : Option Instruction) (next : ℕ) → decoded o next ≡ fetch code at → Taken code s t c k vals o next
+  pub taken : at < length code → (o : Option Instruction) (next : ℕ) → decoded o next ≡ fetchOne code at → Taken code s t c k vals o next
   taken h o next f = go (r .rest) (r .spelled) (r .fit) (r .same)
     where
       go : (is : List Instruction) → drop at code ≡ encodeAll is → Fit is → exec (unranged t) s is (machineOf k vals t) ≡ left s t c → Taken code s t c k vals o next

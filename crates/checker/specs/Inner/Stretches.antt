@@ -4,28 +4,14 @@ use mathlib.Core.Path.{_≡_}
 use mathlib.Core.List.{List}
 use mathlib.Core.Option.{some}
 use lib.ListN.{length}
-use Rattle.leb128.specs.Numbers.{Read, got, nothing}
-use Rattle.bytecode.specs.Instructions.{Instruction, instructionOf, decoded, fetchOne}
+use Rattle.leb128.specs.Numbers.{got}
+use Rattle.bytecode.specs.Instructions.{Instruction, fetchOne}
 use Rattle.bytecode.specs.Check.{Known, advance}
-use Rattle.bytecode.specs.Results.{Bounded}
 use Rattle.checker.specs.declared.advance.Walk.{Walk}
 use Rattle.checker.specs.declared.ahead.Stretch.{Stretch}
 use Rattle.checker.specs.declared.ahead.Stretch.the-variants as T
-use Rattle.checker.specs.declared.ahead.Plain.{Plain}
-use Rattle.checker.specs.declared.ahead.Plain.the-variants as P
 use Rattle.checker.specs.Inner.Walk.{knownOf, Small}
 use Rattle.checker.specs.Results.{BreaksUnlessTimed}
-
--- ---- an instruction of one operand at most
-
--- A code byte that is not listed is no instruction, though its byte was read.
-abbrev pub plainRead : Plain → Read Instruction
-plainRead (P.Instruction code n next) = decoded (instructionOf code n) next
-plainRead P.Malformed = nothing
-
-abbrev pub PlainWithin : ℕ → ℕ → Plain → Type 0
-PlainWithin length at (P.Instruction code n next) = Bounded length at n next
-PlainWithin length at P.Malformed = Unit {0}
 
 -- ---- a value more
 

@@ -3,8 +3,8 @@ use mathlib.Core.Path.{sym, ap, subst, _∙_}
 use lib.ListN.{length}
 use borrow.Author.Needs.{needs}
 use Rattle.bytecode.specs.Instructions.{instructionOf}
+use Rattle.bytecode.specs.Results.{plainRead, PlainWithin}
 use Rattle.checker.specs.Inner.Walk.{knownOf, advancedKnown, SmallAfter}
-use Rattle.checker.specs.Inner.Stretches.{plainRead, PlainWithin}
 use Rattle.checker.proofs.Walking.{judges-malformed, judges-broken}
 use Rattle.checker.proofs.Stretching.{single-leads}
 use Rattle.checker.proofs.ahead.single.Statement.{statement}
