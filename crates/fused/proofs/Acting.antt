@@ -5,23 +5,26 @@ use mathlib.Core.Path.{_≡_, refl, sym, ap, subst, _∙_}
 use mathlib.Core.Bool.{true, false, not, _&&_}
 use mathlib.Core.List.{List, []}
 use mathlib.Core.Logic.{_⊎_, inl, inr}
-use mathlib.Core.Option.{some}
+use mathlib.Core.Option.{Option, some}
 use lib.IntN.{ℤ}
-use lib.ListN.{length}
-use Rattle.arith.specs.Values.{ok}
+use lib.ListN.{length, getD}
+use Rattle.arith.specs.Values.{ok, compares}
 use Rattle.semantics.specs.Shape.{Setting}
 use Rattle.arith.specs.Inner.Flags.{flagsOf}
-use Rattle.bytecode.specs.Instructions.{Instruction, gate, instructionOf, hasOperand}
+use Rattle.bytecode.specs.Instructions.{Instruction, operation, comparison, gate, operationOf, comparisonOf, instructionOf, hasOperand, decoded}
 use Rattle.bytecode.specs.Check.{Known, known, guard, advance}
 use Rattle.bytecode.specs.Signature.{truth}
+use Rattle.bytecode.proofs.Codes.{operation-of, comparison-of, no-operand}
 use Rattle.checker.specs.declared.advance.Walk.{Walk}
 use Rattle.checker.specs.declared.advance.Advanced.{Advanced}
 use Rattle.checker.specs.declared.advance.Advanced.the-variants.{Kept}
 use Rattle.checker.specs.Inner.Walk.{knownOf, only, sortsOf, openOf, picksOf, advancedKnown, Small, SmallAfter}
-use Rattle.checker.proofs.Steps.{gate-is, only-one}
+use Rattle.checker.proofs.Steps.{comparison-is, gate-is, only-one}
 use Rattle.machine.specs.declared.Stepped.the-variants as S
 use Rattle.machine.specs.Step.{machine, perform}
 use Rattle.machine.specs.Inner.Memory.{heldOf, RangesIn}
+use Rattle.machine.specs.Inner.Groups.{truthOf}
+use Rattle.machine.proofs.Codes.{truth-comparison, related-same}
 use Rattle.machine.proofs.Stack.{held-top}
 use Rattle.fused.specs.declared.Progress.{Progress}
 use Rattle.fused.specs.declared.Moved.the-variants as M
@@ -29,7 +32,7 @@ use Rattle.fused.specs.declared.act.Acted.{Acted}
 use Rattle.fused.specs.declared.act.Acted.the-variants as A
 use Rattle.fused.specs.Inner.Passes.{Ready, Moves}
 use Rattle.fused.specs.Inner.Leaps.{Goes, lastly, first}
-use Rattle.fused.specs.Inner.Acts.{doneOf, ActedBy, AtHand, StretchedBy, Shut, shutOf}
+use Rattle.fused.specs.Inner.Acts.{doneOf, ActedBy, ActedOnce, AtHand, DoneBy, RelatedBy, StretchedBy, Shut, shutOf}
 use Rattle.fused.proofs.Joining.{arrives, alone}
 use Rattle.fused.proofs.Fusing.{Fusing, goes-far, goes-ready, fusing-leaps}
 
@@ -39,11 +42,40 @@ use Rattle.fused.proofs.Fusing.{Fusing, goes-far, goes-ready, fusing-le
 pub done-acts : {code : List ℕ} {low high prev cur vals : List ℤ} {b : Progress} {i : Instruction} {next : ℕ} (h : AtHand code low high prev cur vals b i next) (k : Walk) (vals₁ : List ℤ) (a : Advanced)
     → a ≡ Kept k → advancedKnown a ≡ advance i (knownOf (b .walk)) → SmallAfter a → (held : ℕ)
     → ((ns : Setting) → RangesIn (ns .ranges) low high → ok (machine false (b .picked) (heldOf vals₁ held) cur) ≡ perform ns prev i (b .picked) (heldOf vals (b .walk .held)) cur)
-    → (r : Acted) → r ≡ doneOf b k next → ActedBy code low high prev b vals cur vals₁ r
+    → (r : Acted) → r ≡ doneOf b k next → ActedOnce code low high prev b vals cur vals₁ r
 done-acts {code} {low} {high} {prev} {cur} {vals} {b} {i} {next} h k vals₁ a is e small held acts r q =
     let on : Progress = record { walk = k; at = next; picked = b .picked; passing = false } in
     let m : Moves code low high prev b vals cur vals₁ cur on = arrives (h .ready) (h .acting) code next k vals₁ cur (some i) (h .fetched) (h .inside) a is e small (S.Next (record { held = held; picked = b .picked; passing = false })) acts (M.On on) refl in
-    subst (λ (x : Acted). ActedBy code low high prev b vals cur vals₁ x) (sym q) (refl, lastly b vals cur vals₁ cur on m)
+    subst (λ (x : Acted). ActedOnce code low high prev b vals cur vals₁ x) (sym q) (refl, refl, lastly b vals cur vals₁ cur on m)
+
+-- one is as many as it is
+pub once-acts : (code : List ℕ) (low high prev : List ℤ) (b : Progress) (vals cur vals₁ : List ℤ) (r : Acted) → ActedOnce code low high prev b vals cur vals₁ r → ActedBy code low high prev b vals cur vals₁ r
+once-acts code low high prev b vals cur vals₁ (A.On k n) h = (h .1, subst (λ (m : ℕ). Goes code low high prev m b vals cur k vals₁ cur) (sym (h .0)) (h .2))
+once-acts code low high prev b vals cur vals₁ A.Other h = h
+
+module _ (code : List ℕ) (low high prev : List ℤ) (b : Progress) (vals cur vals₁ : List ℤ) (r : Acted) (h : ActedOnce code low high prev b vals cur vals₁ r) where
+  pub once-on : (k : Progress) (n : ℕ) → r ≡ A.On k n → (k .passing ≡ false) × Goes code low high prev 1 b vals cur k vals₁ cur
+  once-on k n e = let o = subst (λ (x : Acted). ActedOnce code low high prev b vals cur vals₁ x) e h in (o .1, o .2)
+
+  pub once-none : r ≡ A.Other → vals₁ ≡ vals
+  once-none e = subst (λ (x : Acted). ActedOnce code low high prev b vals cur vals₁ x) e h
+
+-- a code byte without an operand is at hand
+module _ {code : List ℕ} {low high prev cur vals : List ℤ} {b : Progress} (r : Ready low high prev cur vals b) (go : b .passing ≡ false) (inside : b .at < length code) where
+  pub lone-at-hand : (byte : ℕ) → getD code (b .at) 0 ≡ byte → hasOperand byte ≡ false → (i : Instruction) → instructionOf byte 0 ≡ some i → AtHand code low high prev cur vals b i (b .at + 1)
+  lone-at-hand byte is has i e =
+      record { ready = r; acting = go; inside = omega (arith, inside); fetched = alone code b inside byte is has ∙ ap (λ (o : Option Instruction). decoded o (b .at + 1)) e }
+
+  pub operation-at-hand : (byte : ℕ) → getD code (b .at) 0 ≡ byte → 4 ≤ byte → byte ≤ 8 → AtHand code low high prev cur vals b (operation (operationOf byte)) (b .at + 1)
+  operation-at-hand byte is least most = lone-at-hand byte is (no-operand byte least (omega arith)) (operation (operationOf byte)) (operation-of byte 0 least most)
+
+  pub comparison-at-hand : (byte : ℕ) → getD code (b .at) 0 ≡ byte → 10 ≤ byte → byte ≤ 15 → AtHand code low high prev cur vals b (comparison (comparisonOf byte)) (b .at + 1)
+  comparison-at-hand byte is least most = lone-at-hand byte is (no-operand byte (omega arith) (omega arith)) (comparison (comparisonOf byte)) (comparison-of byte 0 least most)
+
+-- comparisons of a code byte
+pub comparison-done : (byte : ℕ) → byte ≤ 15 → (next : ℕ) (b : Progress) (vals vals₁ : List ℤ) (r : Acted) → RelatedBy byte 0 next b vals vals₁ r → DoneBy (comparison (comparisonOf byte)) next b vals vals₁ r
+comparison-done byte most next b vals vals₁ r d =
+    d (comparison (comparisonOf byte)) (comparison-is (comparisonOf byte) (knownOf (b .walk))) (λ ns s t k vs. related-same (compares (comparisonOf byte)) (truthOf byte) k vs t (λ x y. sym (truth-comparison byte x y (omega (arith, most)))))
 
 -- ---- several
 
@@ -58,6 +90,19 @@ goes-on {code} {low} {high} {prev} _ _ _ _ _ _ _ (first n b vals cur vals₃ cur
 pub acted : {code : List ℕ} {low high prev : List ℤ} {b : Progress} {vals cur vals₁ : List ℤ} (r : Acted) (k : Progress) (n : ℕ) → ActedBy code low high prev b vals cur vals₁ r → r ≡ A.On k n
     → (k .passing ≡ false) × Goes code low high prev n b vals cur k vals₁ cur
 acted {code} {low} {high} {prev} {b} {vals} {cur} {vals₁} r k n h e = subst (λ (x : Acted). ActedBy code low high prev b vals cur vals₁ x) e h
+
+-- one, and another behind it
+pub then-acts : {code : List ℕ} {low high prev : List ℤ} {b : Progress} {vals cur vals₁ vals₂ : List ℤ} (p q : Progress) (j : ℕ) (r : Acted) → (p .passing ≡ false) × Goes code low high prev 1 b vals cur p vals₁ cur → length vals₁ ≡ length vals
+    → ActedOnce code low high prev p vals₁ cur vals₂ r → r ≡ A.On q j → ActedBy code low high prev b vals cur vals₂ (A.On q 2)
+then-acts {code} {low} {high} {prev} {b} {vals} {cur} {vals₁} {vals₂} p q j r g deep h e =
+    let o = once-on code low high prev p vals₁ cur vals₂ r h q j e in
+    (o .0, goes-on 1 b vals cur p vals₁ cur (g .1) deep refl 1 q vals₂ cur (o .1))
+
+-- one, and none behind it
+pub then-none : {code : List ℕ} {low high prev : List ℤ} {b : Progress} {vals cur vals₁ vals₂ : List ℤ} (p : Progress) (r : Acted) → (p .passing ≡ false) × Goes code low high prev 1 b vals cur p vals₁ cur
+    → ActedOnce code low high prev p vals₁ cur vals₂ r → r ≡ A.Other → ActedBy code low high prev b vals cur vals₂ (A.On p 1)
+then-none {code} {low} {high} {prev} {b} {vals} {cur} {vals₁} {vals₂} p r g h e =
+    subst (λ (l : List ℤ). ActedBy code low high prev b vals cur l (A.On p 1)) (sym (once-none code low high prev p vals₁ cur vals₂ r h e)) g
 
 module _ {code : List ℕ} {low high prev : List ℤ} {b : Progress} {vals cur : List ℤ} where
   pub stretch-begins : Ready low high prev cur vals b → b .passing ≡ false → StretchedBy code low high prev b vals cur 0 b vals

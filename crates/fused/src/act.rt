@@ -15,7 +15,7 @@ ghost use Rattle.limits.specs.Limits.{stackLimit};
 ghost use Rattle.bytecode.specs.Instructions.{operation, operationOf, negated};
 ghost use Rattle.checker.specs.Inner.Walk.{Small};
 ghost use Rattle.fused.specs.Inner.Passes.{Ready};
-ghost use Rattle.fused.specs.Inner.Acts.{doneOf, ActedBy, PutBy, DoneBy, RelatedBy, StretchedBy, Shut, shutOf};
+ghost use Rattle.fused.specs.Inner.Acts.{doneOf, ActedBy, SmallOn, PutBy, DoneBy, RelatedBy, WorkedBy, PutOnBy, StretchedBy, Shut, shutOf};
 
 // The progress behind instructions that are done, and how many they are; or it is another, and nothing is done.
 pub enum Acted {
@@ -48,6 +48,7 @@ fn done(b: Progress, k: Walk, next: usize) -> Acted
 fn put(vals: &mut [i32], b: Progress, next: usize, v: i32) -> Acted
     requires { ⌜ Small (b .walk) × (stackLimit ≤ length (now vals)) ⌝ }
     ensures { λ r. ⌜ PutBy next v b (now (vals .entry)) (now (vals .exit)) r ⌝ }
+    ensures { λ r. ⌜ SmallOn r ⌝ }
 {
     let w = b.walk;
     let Advanced::Kept(k) = advance::push(w) else {
@@ -122,7 +123,38 @@ fn invert(vals: &mut [i32], b: Progress, next: usize) -> Acted
     done(b, k, next)
 }
 
-// One instruction. Each code of a range has an arm of its own, so that the compiler works the call out for that code.
+// The operation or comparison that stands here, on the two numbers on top.
+fn work(code: &[u8], vals: &mut [i32], b: Progress) -> Acted
+    requires { ⌜ Small (b .walk) × (b .at < length (now code)) × (stackLimit ≤ length (now vals)) ⌝ }
+    ensures { λ r. ⌜ WorkedBy (now (code .entry)) b (now (vals .entry)) (now (vals .exit)) r ⌝ }
+{
+    let at = b.at;
+    let byte = code[at];
+    match byte {
+        4..=8 => calculate(vals, b, at + 1, byte),
+        10..=15 => relate(vals, b, at + 1, byte, advance::NUMBER),
+        _ => Acted::Other,
+    }
+}
+
+// Code 1: the constant is put on top, and the operation or comparison behind it, if one stands there, is done too.
+fn put_constant(code: &[u8], vals: &mut [i32], b: Progress, next: usize, v: i32) -> Acted
+    requires { ⌜ Small (b .walk) × (stackLimit ≤ length (now vals)) ⌝ }
+    ensures { λ r. ⌜ PutOnBy (now (code .entry)) next v b (now (vals .entry)) (now (vals .exit)) r ⌝ }
+{
+    let Acted::On(p, _) = put(vals, b, next, v) else {
+        return Acted::Other;
+    };
+    if code.len() <= p.at {
+        return Acted::On(p, 1);
+    }
+    let Acted::On(q, _) = work(code, vals, p) else {
+        return Acted::On(p, 1);
+    };
+    Acted::On(q, 2)
+}
+
+// One instruction, or a constant and what works on it.
 fn act_one(
     code: &[u8],
     low: &[i32],
@@ -139,12 +171,13 @@ fn act_one(
     let at = b.at;
     let behind = at + 1;
     let w = b.walk;
-    match code[at] {
+    let byte = code[at];
+    match byte {
         1 => {
             let leb128::Unsigned::Number(n, next) = leb128::unsigned_at(code, behind) else {
                 return Acted::Other;
             };
-            put(vals, b, next, leb128::unzigzag(n))
+            put_constant(code, vals, b, next, leb128::unzigzag(n))
         }
         2 => {
             let leb128::Unsigned::Number(n, next) = leb128::unsigned_at(code, behind) else {
@@ -169,17 +202,8 @@ fn act_one(
             let i = n as usize;
             put(vals, b, next, prev[i])
         }
-        4 => calculate(vals, b, behind, 4),
-        5 => calculate(vals, b, behind, 5),
-        6 => calculate(vals, b, behind, 6),
-        7 => calculate(vals, b, behind, 7),
-        8 => calculate(vals, b, behind, 8),
-        10 => relate(vals, b, behind, 10, advance::NUMBER),
-        11 => relate(vals, b, behind, 11, advance::NUMBER),
-        12 => relate(vals, b, behind, 12, advance::NUMBER),
-        13 => relate(vals, b, behind, 13, advance::NUMBER),
-        14 => relate(vals, b, behind, 14, advance::NUMBER),
-        15 => relate(vals, b, behind, 15, advance::NUMBER),
+        4..=8 => calculate(vals, b, behind, byte),
+        10..=15 => relate(vals, b, behind, byte, advance::NUMBER),
         16 => invert(vals, b, behind),
         17 => relate(vals, b, behind, 17, advance::TRUTH),
         18 => relate(vals, b, behind, 18, advance::TRUTH),

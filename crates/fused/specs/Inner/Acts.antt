@@ -13,7 +13,7 @@ use Rattle.bytecode.specs.Instructions.{Instruction, fetchOne}
 use Rattle.bytecode.specs.Signature.{truth}
 use Rattle.bytecode.specs.Check.{advance}
 use Rattle.checker.specs.declared.advance.Walk.{Walk}
-use Rattle.checker.specs.Inner.Walk.{knownOf, openOf, sortOf, pushed, joined, outside}
+use Rattle.checker.specs.Inner.Walk.{knownOf, openOf, sortOf, pushed, joined, outside, Small}
 use Rattle.machine.specs.Step.{yes, push, perform}
 use Rattle.machine.specs.Inner.Groups.{truthOf, related}
 use Rattle.fused.specs.declared.Progress.{Progress}
@@ -31,6 +31,16 @@ abbrev pub ActedBy : List ℕ → List ℤ → List ℤ → List ℤ → Progres
 ActedBy code low high prev b vals cur vals₁ (A.On k n) = (k .passing ≡ false) × Goes code low high prev n b vals cur k vals₁ cur
 ActedBy code low high prev b vals cur vals₁ A.Other = vals₁ ≡ vals
 
+-- one is done, or none
+abbrev pub ActedOnce : List ℕ → List ℤ → List ℤ → List ℤ → Progress → List ℤ → List ℤ → List ℤ → Acted → Type 0
+ActedOnce code low high prev b vals cur vals₁ (A.On k n) = (n ≡ 1) × (k .passing ≡ false) × Goes code low high prev 1 b vals cur k vals₁ cur
+ActedOnce code low high prev b vals cur vals₁ A.Other = vals₁ ≡ vals
+
+-- the walk's numbers stay small
+abbrev pub SmallOn : Acted → Type 0
+SmallOn (A.On k n) = Small (k .walk)
+SmallOn A.Other = Unit {0}
+
 -- this instruction is at hand, with this place behind it, and is not passed over
 pub record AtHand (code : List ℕ) (low high prev cur vals : List ℤ) (b : Progress) (i : Instruction) (next : ℕ) : Type 0 where
   pub ready : Ready low high prev cur vals b
@@ -40,19 +50,32 @@ pub record AtHand (code : List ℕ) (low high prev cur vals : List ℤ) (b : Pro
 
 -- where this instruction is at hand
 abbrev pub DoneBy : Instruction → ℕ → Progress → List ℤ → List ℤ → Acted → Type 0
-DoneBy i next b vals vals₁ r = (code : List ℕ) (low high prev cur : List ℤ) → AtHand code low high prev cur vals b i next → ActedBy code low high prev b vals cur vals₁ r
+DoneBy i next b vals vals₁ r = (code : List ℕ) (low high prev cur : List ℤ) → AtHand code low high prev cur vals b i next → ActedOnce code low high prev b vals cur vals₁ r
 
--- where one is at hand that puts v on top
+-- an instruction is at hand that puts v on top
+pub record PutsAt (code : List ℕ) (low high prev cur vals : List ℤ) (b : Progress) (next : ℕ) (v : ℤ) : Type 0 where
+  pub putting : Instruction
+  pub at-hand : AtHand code low high prev cur vals b putting next
+  pub admitted : advance putting (knownOf (b .walk)) ≡ pushed (knownOf (b .walk))
+  pub puts : (ns : Setting) (c : Bool) (vs : List ℤ) → length (ns .ranges) ≡ b .walk .names → perform ns prev putting c vs cur ≡ push v c vs cur
+
+-- where one is
 abbrev pub PutBy : ℕ → ℤ → Progress → List ℤ → List ℤ → Acted → Type 0
-PutBy next v b vals vals₁ r =
-    (code : List ℕ) (low high prev cur : List ℤ) (i : Instruction) → AtHand code low high prev cur vals b i next → advance i (knownOf (b .walk)) ≡ pushed (knownOf (b .walk))
-    → ((ns : Setting) (c : Bool) (vs : List ℤ) → length (ns .ranges) ≡ b .walk .names → perform ns prev i c vs cur ≡ push v c vs cur) → ActedBy code low high prev b vals cur vals₁ r
+PutBy next v b vals vals₁ r = (code : List ℕ) (low high prev cur : List ℤ) → PutsAt code low high prev cur vals b next v → ActedOnce code low high prev b vals cur vals₁ r
+
+-- the same, and what stands behind it may be done too
+abbrev pub PutOnBy : List ℕ → ℕ → ℤ → Progress → List ℤ → List ℤ → Acted → Type 0
+PutOnBy code next v b vals vals₁ r = (low high prev cur : List ℤ) → PutsAt code low high prev cur vals b next v → ActedBy code low high prev b vals cur vals₁ r
 
 -- where one is at hand that puts the yes-no of a code in the place of two values of a sort
 abbrev pub RelatedBy : ℕ → ℕ → ℕ → Progress → List ℤ → List ℤ → Acted → Type 0
 RelatedBy code sort next b vals vals₁ r =
     (i : Instruction) → advance i (knownOf (b .walk)) ≡ outside (openOf (b .walk .gate)) (joined (sortOf sort) truth (knownOf (b .walk)))
     → ((ns : Setting) (s t : State) (c : Bool) (vs : List ℤ) → perform ns s i c vs t ≡ related (truthOf code) c vs t) → DoneBy i next b vals vals₁ r
+
+-- whatever instruction is at hand
+abbrev pub WorkedBy : List ℕ → Progress → List ℤ → List ℤ → Acted → Type 0
+WorkedBy code b vals vals₁ r = (low high prev cur : List ℤ) → Ready low high prev cur vals b → b .passing ≡ false → ActedOnce code low high prev b vals cur vals₁ r
 
 -- as many as stand here, or none
 pub record StretchedBy (code : List ℕ) (low high prev : List ℤ) (b : Progress) (vals cur : List ℤ) (n : ℕ) (k : Progress) (vals₁ : List ℤ) : Type 0 where
