@@ -110,9 +110,6 @@ fn skip_one(code: &[u8], at: usize, held: u64, w: Walk) -> Skipped
         }
         return Skipped::Over(held - 1, at + 1);
     }
-    if byte == 0 {
-        return Skipped::Other;
-    }
     if (limits::STACK_LIMIT as u64) <= held {
         return Skipped::Other;
     }
@@ -127,6 +124,9 @@ fn skip_one(code: &[u8], at: usize, held: u64, w: Walk) -> Skipped
             return Skipped::Other;
         }
         return Skipped::Over(held + 1, next);
+    }
+    if byte == 0 {
+        return Skipped::Other;
     }
     if advance::is_known(w, n) {
         return Skipped::Over(held + 1, next);
