@@ -1,7 +1,7 @@
 -- Laws of signed numbers, for this crate and those above. Assumes nothing.
 use mathlib.Core.Path.{_≡_, refl, sym, ap, _∙_}
 use mathlib.Core.Bool.{Bool, true, false, cond}
-use Prim.Native.Nat.{ℕ, zero, suc, _+_, _*_, _-_, _/_, _%_, _≤_, _<_}
+use Prim.Native.Nat.{ℕ, zero, suc, _+_, _*_, _-_, _/_, _%_, _^_, _≤_, _<_}
 use native.Mathlib.Nat.{div-le-self, mul-le-mul, div-add-mod, mul-zero}
 use native.Mathlib.Omega.{arith}
 use lib.Dec.{T, leb, ltb, eqb}
@@ -182,3 +182,7 @@ eq-bits {w} a b f g =
 -- what a comparison reads, and what a callee is handed: the number itself
 pub same32 : {a : ℤ} → SFits w32 a → toZ w32 (ofZ w32 a) ≡ a
 same32 f = toZ-ofZ {w = w32} f
+
+-- what a caller holds of a 64-bit answer: the number itself
+pub given64 : (z : ℤ) → mag z < 2 ^ 63 → toZ w64 (ofZ w64 z) ≡ z
+given64 z h = toZ-ofZ {w = w64} record { sfits = h }

@@ -12,6 +12,9 @@ pub enum Value {
     Refused,
 }
 
+// A number outside the 32-bit signed range: `narrow` makes refusal 14 of it.
+const OUTSIDE: i64 = 2147483648;
+
 // A number as a count; of a negative one, 0.
 pub fn count(z: i32) -> u64
     ensures { λ r. ⌜ (r ≡ countOf z) × (r < 2 ^ 31) ⌝ }
@@ -23,7 +26,7 @@ pub fn count(z: i32) -> u64
 }
 
 // The number where it is in the 32-bit signed range.
-fn narrow(x: i64) -> Value
+pub fn narrow(x: i64) -> Value
     ensures { λ r. ⌜ outcomeOf r ≡ int32 x ⌝ }
 {
     if -2147483648 <= x {
@@ -34,52 +37,53 @@ fn narrow(x: i64) -> Value
     Value::Refused
 }
 
-pub fn sum(a: i32, b: i32) -> Value
-    ensures { λ r. ⌜ outcomeOf r ≡ arithmetic add a b ⌝ }
+// The exact result of an operation; `narrow` casts it back.
+pub fn sum(a: i32, b: i32) -> i64
+    ensures { λ r. ⌜ int32 r ≡ arithmetic add a b ⌝ }
 {
     let x = a as i64;
     let y = b as i64;
-    narrow(x + y)
+    x + y
 }
 
-pub fn difference(a: i32, b: i32) -> Value
-    ensures { λ r. ⌜ outcomeOf r ≡ arithmetic subtract a b ⌝ }
+pub fn difference(a: i32, b: i32) -> i64
+    ensures { λ r. ⌜ int32 r ≡ arithmetic subtract a b ⌝ }
 {
     let x = a as i64;
     let y = b as i64;
-    narrow(x - y)
+    x - y
 }
 
-pub fn product(a: i32, b: i32) -> Value
-    ensures { λ r. ⌜ outcomeOf r ≡ arithmetic multiply a b ⌝ }
+pub fn product(a: i32, b: i32) -> i64
+    ensures { λ r. ⌜ int32 r ≡ arithmetic multiply a b ⌝ }
 {
     let x = a as i64;
     let y = b as i64;
-    narrow(x * y)
+    x * y
 }
 
-// Cut toward zero. -2147483648 / -1 leaves the range.
-pub fn quotient(a: i32, b: i32) -> Value
-    ensures { λ r. ⌜ outcomeOf r ≡ arithmetic divide a b ⌝ }
+// Cut toward zero. -2147483648 / -1 leaves the range, and so does what a zero divisor gives.
+pub fn quotient(a: i32, b: i32) -> i64
+    ensures { λ r. ⌜ int32 r ≡ arithmetic divide a b ⌝ }
 {
     let x = a as i64;
     let y = b as i64;
     if y == 0 {
-        return Value::Refused;
+        return OUTSIDE;
     }
-    narrow(x / y)
+    x / y
 }
 
 // With the dividend's sign, and 0 for a zero divisor (A.5). -2147483648 mod -1 is 0: the quotient is not range-tested.
-pub fn remainder(a: i32, b: i32) -> Value
-    ensures { λ r. ⌜ outcomeOf r ≡ arithmetic modulo a b ⌝ }
+pub fn remainder(a: i32, b: i32) -> i64
+    ensures { λ r. ⌜ int32 r ≡ arithmetic modulo a b ⌝ }
 {
     let x = a as i64;
     let y = b as i64;
     if y == 0 {
-        return Value::Is(0);
+        return 0;
     }
-    narrow(x % y)
+    x % y
 }
 
 pub fn negated(a: i32) -> Value

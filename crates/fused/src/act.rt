@@ -211,7 +211,7 @@ fn act_one(
     }
 }
 
-// A comparison that stands ahead, else one instruction.
+// An operation or comparison that stands ahead, else one instruction.
 fn act_ahead(
     code: &[u8],
     low: &[i32],
@@ -227,14 +227,14 @@ fn act_ahead(
 {
     let at = b.at;
     let w = b.walk;
-    let Seen::Truth(t) = ahead::comparison_ahead(code, prev, cur, at, w) else {
+    let Seen::Value(v, sort) = ahead::pair_ahead(code, prev, cur, at, w) else {
         return act_one(code, low, high, prev, cur, vals, b);
     };
     let h = w.held as usize;
-    vals[h] = values::bit_of(t);
+    vals[h] = v;
     let mut k = w;
     k.held = w.held + 1;
-    k.sorts = w.sorts * 2 + 1;
+    k.sorts = w.sorts * 2 + sort;
     Acted::On(
         Progress {
             walk: k,

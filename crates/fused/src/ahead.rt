@@ -1,5 +1,5 @@
-// Instructions that stand ahead together are done as one: a value, a constant and their comparison; and, where instructions are passed over, those
-// up to the pick. Anything else, and whatever would break soundness or be refused, goes one instruction at a time.
+// Instructions that stand ahead together are done as one: a value, a constant and an operation or comparison on the two; and, where instructions are
+// passed over, those up to the pick. Anything else, and whatever would break soundness or be refused, goes one instruction at a time.
 use crate::Moved;
 use crate::Progress;
 use crate::act;
@@ -12,11 +12,11 @@ ghost use Prim.Native.Nat.{_≤_, _<_};
 ghost use lib.ListN.{length};
 ghost use Rattle.checker.specs.Inner.Walk.{openOf, Small};
 ghost use Rattle.fused.specs.Inner.Passes.{Ready};
-ghost use Rattle.fused.specs.Inner.Leaps.{SeenBy, withHeld, SkippedBy, SkipsTo, leapOf, LeapsBy, LeapsOver, LeapsFirst};
+ghost use Rattle.fused.specs.Inner.Leaps.{FoundBy, SeenBy, withHeld, SkippedBy, SkipsTo, leapOf, LeapsBy, LeapsOver, LeapsFirst};
 
-// What the comparison that stands ahead finds; or none does.
+// What the two make, and its sort; or nothing is seen.
 pub enum Seen {
-    Truth(bool),
+    Value(i32, u64),
     Other,
 }
 
@@ -33,8 +33,29 @@ fn wide(x: u8) -> u64
     x as u64
 }
 
-// A current or previous value, a constant and a comparison, with operands of one byte, that the walk lets pass.
-pub fn comparison_ahead(code: &[u8], prev: &[i32], cur: &[i32], at: usize, w: Walk) -> Seen
+// What an operation or comparison makes of two numbers, where the walk lets it pass.
+fn found(w: Walk, op: u8, a: i32, c: i32) -> Seen
+    ensures { λ r. ⌜ FoundBy w op a c r ⌝ }
+{
+    match op {
+        4..=8 => {
+            let arith::Value::Is(v) = values::calculated(op, a, c) else {
+                return Seen::Other;
+            };
+            Seen::Value(v, advance::NUMBER)
+        }
+        10..=15 => {
+            if w.gate != 0 {
+                return Seen::Other;
+            }
+            Seen::Value(values::bit_of(values::truth(op, a, c)), advance::TRUTH)
+        }
+        _ => Seen::Other,
+    }
+}
+
+// A current or previous value, a constant, and an operation or comparison, with operands of one byte, that the walk lets pass.
+pub fn pair_ahead(code: &[u8], prev: &[i32], cur: &[i32], at: usize, w: Walk) -> Seen
     requires { ⌜ Small w × (at < length (now code)) × (w .names ≤ length (now prev)) × (w .names ≤ length (now cur)) ⌝ }
     ensures { λ r. ⌜ SeenBy (now (code .entry)) (now (prev .entry)) (now (cur .entry)) at w r ⌝ }
 {
@@ -52,7 +73,7 @@ pub fn comparison_ahead(code: &[u8], prev: &[i32], cur: &[i32], at: usize, w: Wa
         return Seen::Other;
     }
     let op = code[at + 4];
-    if op < 10 {
+    if op < 4 {
         return Seen::Other;
     }
     if 15 < op {
@@ -66,20 +87,17 @@ pub fn comparison_ahead(code: &[u8], prev: &[i32], cur: &[i32], at: usize, w: Wa
     if 127 < n {
         return Seen::Other;
     }
-    if w.gate != 0 {
-        return Seen::Other;
-    }
     if (limits::STACK_LIMIT as u64) <= w.held + 1 {
         return Seen::Other;
     }
     let i = id as usize;
     if byte == 3 {
-        return Seen::Truth(values::truth(op, prev[i], leb128::unzigzag(n)));
+        return found(w, op, prev[i], leb128::unzigzag(n));
     }
     if !advance::is_known(w, id) {
         return Seen::Other;
     }
-    Seen::Truth(values::truth(op, cur[i], leb128::unzigzag(n)))
+    found(w, op, cur[i], leb128::unzigzag(n))
 }
 
 // How many values are held behind an instruction that is passed over, and the place behind it; or it is another.
@@ -110,9 +128,6 @@ fn skip_one(code: &[u8], at: usize, held: u64, w: Walk) -> Skipped
         }
         return Skipped::Over(held - 1, at + 1);
     }
-    if byte == 0 {
-        return Skipped::Other;
-    }
     if (limits::STACK_LIMIT as u64) <= held {
         return Skipped::Other;
     }
@@ -127,6 +142,9 @@ fn skip_one(code: &[u8], at: usize, held: u64, w: Walk) -> Skipped
             return Skipped::Other;
         }
         return Skipped::Over(held + 1, next);
+    }
+    if byte == 0 {
+        return Skipped::Other;
     }
     if advance::is_known(w, n) {
         return Skipped::Over(held + 1, next);

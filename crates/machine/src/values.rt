@@ -2,7 +2,7 @@
 ghost use mathlib.Core.Path.{_≡_};
 ghost use mathlib.Core.Bool.{_&&_, _||_};
 ghost use lib.Signed.{leZ};
-ghost use Rattle.arith.specs.Values.{arithmetic};
+ghost use Rattle.arith.specs.Values.{int32, arithmetic};
 ghost use Rattle.arith.specs.Results.{outcomeOf};
 ghost use Rattle.bytecode.specs.Instructions.{operationOf};
 ghost use Rattle.machine.specs.Step.{bit, yes};
@@ -39,9 +39,9 @@ fn either_yes(a: i32, b: i32) -> bool
     is_yes(b)
 }
 
-// Codes 4 to 8.
-pub fn calculated(code: u8, a: i32, b: i32) -> arith::Value
-    ensures { λ r. ⌜ outcomeOf r ≡ arithmetic (operationOf code) a b ⌝ }
+// Codes 4 to 8, before the range test.
+fn exact(code: u8, a: i32, b: i32) -> i64
+    ensures { λ r. ⌜ int32 r ≡ arithmetic (operationOf code) a b ⌝ }
 {
     match code {
         4 => arith::sum(a, b),
@@ -50,6 +50,13 @@ pub fn calculated(code: u8, a: i32, b: i32) -> arith::Value
         7 => arith::quotient(a, b),
         _ => arith::remainder(a, b),
     }
+}
+
+// Codes 4 to 8.
+pub fn calculated(code: u8, a: i32, b: i32) -> arith::Value
+    ensures { λ r. ⌜ outcomeOf r ≡ arithmetic (operationOf code) a b ⌝ }
+{
+    arith::narrow(exact(code, a, b))
 }
 
 // Codes 10 to 15, 17 and 18.

@@ -3,19 +3,21 @@ use mathlib.Core.Path.{_≡_}
 use mathlib.Core.Bool.{Bool, true, false}
 use mathlib.Core.Logic.{_⊎_}
 use mathlib.Core.Option.{some}
-use mathlib.Core.List.{List}
-use Prim.Native.Nat.{ℕ, _+_, _≤_, _<_}
+use mathlib.Core.List.{List, _∷_}
+use Prim.Native.Nat.{ℕ, _+_, _*_, _≤_, _<_}
 use lib.IntN.{ℤ}
 use lib.ListN.{length}
 use Rattle.limits.specs.Limits.{stackLimit}
-use Rattle.arith.specs.Values.{Comparison, compares}
+use Rattle.arith.specs.Values.{ok}
+use Rattle.semantics.specs.Formula.{State}
 use Rattle.semantics.specs.Shape.{Setting}
 use Rattle.leb128.specs.Numbers.{got, unzigzag}
-use Rattle.bytecode.specs.Instructions.{Instruction, constant, comparison, fetchOne}
+use Rattle.bytecode.specs.Instructions.{Instruction, constant, instructionOf, hasOperand, fetchOne}
 use Rattle.bytecode.specs.Check.{advance}
 use Rattle.checker.specs.declared.advance.Walk.{Walk}
 use Rattle.checker.specs.Inner.Walk.{knownOf, pushed, Small}
-use Rattle.machine.specs.Step.{push, perform, isPick}
+use Rattle.checker.specs.Inner.Stretches.{withNumber}
+use Rattle.machine.specs.Step.{machine, push, perform, isPick}
 use Rattle.fused.specs.declared.Progress.{Progress}
 use Rattle.fused.specs.declared.Moved.{Moved}
 use Rattle.fused.specs.declared.Moved.the-variants as M
@@ -29,25 +31,43 @@ use Rattle.fused.specs.Inner.Passes.{Ready, Moves, Refuses, BreaksAt}
 
 -- ---- what stands ahead
 
--- An instruction that puts x on top, a constant and a comparison; there is room for both values, and no gate is open.
-pub record ComparisonSeen (code : List ℕ) (prev cur : List ℤ) (at : ℕ) (w : Walk) (found : Bool) : Type 0 where
+-- the walk with one value more, of a sort
+abbrev pub withSort : Walk → ℕ → Walk
+withSort w sort = record { held = w .held + 1; sorts = w .sorts * 2 + sort; gate = w .gate; picking = w .picking; known = w .known; names = w .names }
+
+-- An instruction, by its code byte, that has no operand and makes v, of a sort, of the two numbers held last; the walk lets it pass.
+pub record Made (w : Walk) (byte : ℕ) (a b v : ℤ) (sort : ℕ) : Type 0 where
+  pub acting : Instruction
+  pub listed : instructionOf byte 0 ≡ some acting
+  pub alone : hasOperand byte ≡ false
+  pub sort-low : sort < 2
+  pub moved : advance acting (knownOf (withNumber (withNumber w))) ≡ some (knownOf (withSort w sort))
+  pub worked : (ns : Setting) (s t : State) (c : Bool) (vs : List ℤ) → perform ns s acting c (b ∷ a ∷ vs) t ≡ ok (machine false c (v ∷ vs) t)
+
+abbrev pub FoundBy : Walk → ℕ → ℤ → ℤ → Seen → Type 0
+FoundBy w byte a b (N.Value v sort) = Made w byte a b v sort
+FoundBy w byte a b N.Other = Unit {0}
+
+-- An instruction that puts x on top, a constant, and one that makes v of the two; there is room for both values.
+pub record PairSeen (code : List ℕ) (prev cur : List ℤ) (at : ℕ) (w : Walk) (v : ℤ) (sort : ℕ) : Type 0 where
   pub loading : Instruction
   pub x : ℤ
   pub operand : ℕ
-  pub relation : Comparison
+  pub acting : Instruction
   pub first : fetchOne code at ≡ got loading (at + 2)
   pub second : fetchOne code (at + 2) ≡ got (constant (unzigzag operand)) (at + 4)
-  pub third : fetchOne code (at + 4) ≡ got (comparison relation) (at + 5)
+  pub third : fetchOne code (at + 4) ≡ got acting (at + 5)
   pub inside : at + 5 ≤ length code
   pub short : operand < 128
   pub room : w .held + 2 ≤ stackLimit
-  pub shut : w .gate ≡ 0
+  pub sort-low : sort < 2
   pub admitted : advance loading (knownOf w) ≡ pushed (knownOf w)
   pub loaded : (ns : Setting) (c : Bool) (vs : List ℤ) → length (ns .ranges) ≡ w .names → perform ns prev loading c vs cur ≡ push x c vs cur
-  pub finds : found ≡ compares relation x (unzigzag operand)
+  pub moved : advance acting (knownOf (withNumber (withNumber w))) ≡ some (knownOf (withSort w sort))
+  pub worked : (ns : Setting) (s t : State) (c : Bool) (vs : List ℤ) → perform ns s acting c (unzigzag operand ∷ x ∷ vs) t ≡ ok (machine false c (v ∷ vs) t)
 
 abbrev pub SeenBy : List ℕ → List ℤ → List ℤ → ℕ → Walk → Seen → Type 0
-SeenBy code prev cur at w (N.Truth found) = ComparisonSeen code prev cur at w found
+SeenBy code prev cur at w (N.Value v sort) = PairSeen code prev cur at w v sort
 SeenBy code prev cur at w N.Other = Unit {0}
 
 -- ---- what is passed over

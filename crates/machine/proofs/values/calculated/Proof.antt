@@ -1,30 +1,15 @@
 -- `machine::values::calculated` meets its contract. Assumes nothing.
-use mathlib.Core.Path.{_∙_}
-use borrow.Author.Tests.{ne-eqb}
+use mathlib.Core.Path.{ap, _∙_}
 use borrow.Author.Needs.{needs}
-use Rattle.arith.proofs.Laws.{same32}
+use Rattle.arith.specs.Values.{int32}
+use Rattle.arith.proofs.Laws.{same32, given64}
 use Rattle.machine.proofs.values.calculated.Statement.{statement}
 use Rattle.machine.proofs.values.calculated.Tie as tie
 
 returns : tie.Need-returns
-returns c = c .sum .ensures ∙ rw (same32 (c .before .before .fits .a), same32 (c .before .before .fits .b), c .before .match .keys1)
-
-returns-2 : tie.Need-returns-2
-returns-2 c = c .difference .ensures ∙ rw (same32 (c .before .before .fits .a), same32 (c .before .before .fits .b), c .before .match .keys2)
-
-returns-3 : tie.Need-returns-3
-returns-3 c = c .product .ensures ∙ rw (same32 (c .before .before .fits .a), same32 (c .before .before .fits .b), c .before .match .keys3)
-
-returns-4 : tie.Need-returns-4
-returns-4 c = c .quotient .ensures ∙ rw (same32 (c .before .before .fits .a), same32 (c .before .before .fits .b), c .before .match .keys4)
-
-returns-5 : tie.Need-returns-5
-returns-5 c =
-    let r = c .before .match .rest in
-    c .remainder .ensures ∙ rw (same32 (c .before .before .fits .a), same32 (c .before .before .fits .b), ne-eqb _ _ (r .0 .0 .0 .1), ne-eqb _ _ (r .0 .0 .1), ne-eqb _ _ (r .0 .1), ne-eqb _ _ (r .1))
+returns c =
+    let f = c .before .before .fits in
+    c .narrow .ensures ∙ ap int32 (given64 (c .before .exact .result) (c .before .exact .ok)) ∙ c .before .exact .ensures ∙ rw (same32 (f .a), same32 (f .b))
 
 pub calculated-spec : {M : Type 1} → statement M
-calculated-spec =
-    tie.close
-    (tie.spec (λ c κs. search needs) (λ c κs. search needs) (λ c κs. search needs) (λ c κs. search needs) (λ c κs. search needs) returns
-    returns-2 returns-3 returns-4 returns-5)
+calculated-spec = tie.close (tie.spec (λ c κs. search needs) (λ c κs. search needs) returns)
