@@ -10,9 +10,9 @@ use lib.ListN.{length, getD, drop, length-drop, List·getD-eq-default}
 use borrow.Author.Tests.{lt-ltb, le-ltb, ltb-true, eqb-true, ne-eqb}
 use Rattle.leb128.specs.Numbers.{Found, found, none, grouped, numberIn, Read, got, nothing, _then_, below32, numberAt}
 use Rattle.bytecode.specs.Instructions.{Instruction, timer, instructionOf, hasOperand, decoded, fetchOne, timerAt, fetch}
-use Rattle.bytecode.specs.declared.Plain.{Plain}
-use Rattle.bytecode.specs.declared.Plain.the-variants as P
-use Rattle.bytecode.specs.Results.{Bounded, plainRead, PlainWithin}
+use Rattle.bytecode.specs.declared.Single.{Single}
+use Rattle.bytecode.specs.declared.Single.the-variants as P
+use Rattle.bytecode.specs.Results.{Bounded, singleRead, SingleWithin}
 use Rattle.bytecode.proofs.Codes.{unlisted-low, unlisted-high}
 
 -- ---- the bytes of a number
@@ -112,22 +112,22 @@ module _ (bytes : List ℕ) (at : ℕ) where
 
 -- ---- an instruction of one operand at most, as a reader of its own answers it
 
-abbrev pub PlainAt : List ℕ → ℕ → Plain → Type 0
-PlainAt bytes at r = (plainRead r ≡ fetchOne bytes at) × PlainWithin (length bytes) at r
+abbrev pub SingleAt : List ℕ → ℕ → Single → Type 0
+SingleAt bytes at r = (singleRead r ≡ fetchOne bytes at) × SingleWithin (length bytes) at r
 
 module _ (bytes : List ℕ) (at : ℕ) where
-  pub plain-end : length bytes ≤ at → PlainAt bytes at P.Malformed
-  plain-end h = (sym (fetch-none bytes at h), tt)
+  pub single-end : length bytes ≤ at → SingleAt bytes at P.Malformed
+  single-end h = (sym (fetch-none bytes at h), tt)
 
   module _ (h : at < length bytes) where
-    pub plain-alone : hasOperand (getD bytes at 0) ≡ false → PlainAt bytes at (P.Instruction (getD bytes at 0) 0 (at + 1))
-    plain-alone o = (sym (fetch-alone bytes at h o), record { operand = omega arith; behind = omega arith; inside = omega (arith, h) })
+    pub single-alone : hasOperand (getD bytes at 0) ≡ false → SingleAt bytes at (P.Instruction (getD bytes at 0) 0 (at + 1))
+    single-alone o = (sym (fetch-alone bytes at h o), record { operand = omega arith; behind = omega arith; inside = omega (arith, h) })
 
-    pub plain-malformed : hasOperand (getD bytes at 0) ≡ true → numberAt bytes (at + 1) ≡ nothing → PlainAt bytes at P.Malformed
-    plain-malformed o e = (sym (fetch-malformed bytes at h o e), tt)
+    pub single-malformed : hasOperand (getD bytes at 0) ≡ true → numberAt bytes (at + 1) ≡ nothing → SingleAt bytes at P.Malformed
+    single-malformed o e = (sym (fetch-malformed bytes at h o e), tt)
 
-    pub plain-number : (n next : ℕ) → hasOperand (getD bytes at 0) ≡ true → numberAt bytes (at + 1) ≡ got n next → PlainAt bytes at (P.Instruction (getD bytes at 0) n next)
-    plain-number n next o e =
+    pub single-number : (n next : ℕ) → hasOperand (getD bytes at 0) ≡ true → numberAt bytes (at + 1) ≡ got n next → SingleAt bytes at (P.Instruction (getD bytes at 0) n next)
+    single-number n next o e =
         let w = number-within bytes (at + 1) n next e in
         (sym (fetch-number bytes at n next h o e), record { operand = w .operand; behind = omega (arith, w .behind); inside = w .inside })
 

@@ -10,8 +10,8 @@ use Rattle.semantics.specs.Program.{Range}
 use Rattle.leb128.specs.Numbers.{Read, got, nothing}
 use Rattle.bytecode.specs.declared.Fetched.{Fetched}
 use Rattle.bytecode.specs.declared.Fetched.the-variants as F
-use Rattle.bytecode.specs.declared.Plain.{Plain}
-use Rattle.bytecode.specs.declared.Plain.the-variants as P
+use Rattle.bytecode.specs.declared.Single.{Single}
+use Rattle.bytecode.specs.declared.Single.the-variants as P
 use Rattle.bytecode.specs.declared.Operands.{Operands}
 use Rattle.bytecode.specs.declared.Operands.the-variants as O
 use Rattle.bytecode.specs.declared.Counted.{Counted}
@@ -62,13 +62,13 @@ FetchedWithin length at F.Malformed = Unit {0}
 -- ---- an instruction of one operand at most
 
 -- A code byte that is not listed is no instruction, though its byte was read.
-abbrev pub plainRead : Plain → Read Instruction
-plainRead (P.Instruction code n next) = decoded (instructionOf code n) next
-plainRead P.Malformed = nothing
+abbrev pub singleRead : Single → Read Instruction
+singleRead (P.Instruction code n next) = decoded (instructionOf code n) next
+singleRead P.Malformed = nothing
 
-abbrev pub PlainWithin : ℕ → ℕ → Plain → Type 0
-PlainWithin length at (P.Instruction code n next) = Bounded length at n next
-PlainWithin length at P.Malformed = Unit {0}
+abbrev pub SingleWithin : ℕ → ℕ → Single → Type 0
+SingleWithin length at (P.Instruction code n next) = Bounded length at n next
+SingleWithin length at P.Malformed = Unit {0}
 
 -- ---- the operands of a 23
 

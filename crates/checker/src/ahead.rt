@@ -3,13 +3,13 @@
 use crate::advance;
 use crate::advance::Advanced;
 use crate::advance::Walk;
-use bytecode::Plain;
+use bytecode::Single;
 ghost use mathlib.Core.Path.{_≡_};
 ghost use mathlib.Core.Bool.{true};
 ghost use Prim.Native.Nat.{_+_, _<_};
 ghost use lib.ListN.{length};
 ghost use Rattle.bytecode.specs.Instructions.{fetchOne};
-ghost use Rattle.bytecode.specs.Results.{plainRead, PlainWithin};
+ghost use Rattle.bytecode.specs.Results.{singleRead, SingleWithin};
 ghost use Rattle.checker.specs.Inner.Walk.{Small};
 ghost use Rattle.checker.specs.Inner.Stretches.{withTruth, LeadsTo, TakenBy};
 
@@ -97,22 +97,22 @@ fn operation_ahead(code: &[u8], at: usize, w: Walk) -> bool
 }
 
 // The instruction at a place, if it is no timer. Only `single` calls it, so that it is compiled into the walk.
-fn read(code: &[u8], at: usize) -> Plain
-    ensures { λ r. ⌜ plainRead r ≡ fetchOne (now (code .entry)) at ⌝ }
-    ensures { λ r. ⌜ PlainWithin (length (now (code .entry))) at r ⌝ }
+fn read(code: &[u8], at: usize) -> Single
+    ensures { λ r. ⌜ singleRead r ≡ fetchOne (now (code .entry)) at ⌝ }
+    ensures { λ r. ⌜ SingleWithin (length (now (code .entry))) at r ⌝ }
 {
     if code.len() <= at {
-        return Plain::Malformed;
+        return Single::Malformed;
     }
     let byte = code[at];
     let behind = at + 1;
     if bytecode::has_operand(byte) {
         let leb128::Unsigned::Number(n, next) = leb128::unsigned_at(code, behind) else {
-            return Plain::Malformed;
+            return Single::Malformed;
         };
-        return Plain::Instruction(byte, n, next);
+        return Single::Instruction(byte, n, next);
     }
-    Plain::Instruction(byte, 0, behind)
+    Single::Instruction(byte, 0, behind)
 }
 
 // One instruction.
@@ -120,7 +120,7 @@ fn single(code: &[u8], at: usize, w: Walk) -> Stretch
     requires { ⌜ (Small w) × (at < length (now code)) ⌝ }
     ensures { λ r. ⌜ TakenBy (now (code .entry)) at w r ⌝ }
 {
-    let Plain::Instruction(byte, n, next) = read(code, at) else {
+    let Single::Instruction(byte, n, next) = read(code, at) else {
         return Stretch::Broken;
     };
     let Advanced::Kept(k) = advance::advance(byte, n, w) else {

@@ -1,5 +1,5 @@
 // One condition worked out at a place of a trace, and a watch walked over a trace that is lent as its states in turn.
-use bytecode::Plain;
+use bytecode::Single;
 use machine::Registers;
 use machine::Stepped;
 ghost use mathlib.Core.Path.{_≡_};
@@ -13,7 +13,7 @@ ghost use Rattle.arith.specs.Values.{Outcome, ok};
 ghost use Rattle.semantics.specs.Program.{Condition};
 ghost use Rattle.semantics.specs.Formula.{evalC};
 ghost use Rattle.bytecode.specs.Instructions.{instructionOf, fetchOne};
-ghost use Rattle.bytecode.specs.Results.{plainRead, PlainWithin};
+ghost use Rattle.bytecode.specs.Results.{singleRead, SingleWithin};
 ghost use Rattle.machine.specs.Step.{bit};
 ghost use Rattle.machine.specs.Held.{heldOf};
 ghost use Rattle.machine.specs.Inner.Memory.{stepOutcome, Stack, Few};
@@ -38,22 +38,22 @@ pub enum Failed {
 }
 
 // The instruction at a place, if it is no timer. Only `evaluate` calls it, so that it is compiled into the loop.
-fn read(code: &[u8], at: usize) -> Plain
-    ensures { λ r. ⌜ plainRead r ≡ fetchOne (now (code .entry)) at ⌝ }
-    ensures { λ r. ⌜ PlainWithin (length (now (code .entry))) at r ⌝ }
+fn read(code: &[u8], at: usize) -> Single
+    ensures { λ r. ⌜ singleRead r ≡ fetchOne (now (code .entry)) at ⌝ }
+    ensures { λ r. ⌜ SingleWithin (length (now (code .entry))) at r ⌝ }
 {
     if code.len() <= at {
-        return Plain::Malformed;
+        return Single::Malformed;
     }
     let byte = code[at];
     let behind = at + 1;
     if bytecode::has_operand(byte) {
         let leb128::Unsigned::Number(n, next) = leb128::unsigned_at(code, behind) else {
-            return Plain::Malformed;
+            return Single::Malformed;
         };
-        return Plain::Instruction(byte, n, next);
+        return Single::Instruction(byte, n, next);
     }
-    Plain::Instruction(byte, 0, behind)
+    Single::Instruction(byte, 0, behind)
 }
 
 // One instruction of a condition; any other is refused.
@@ -107,7 +107,7 @@ pub fn evaluate(code: &[u8], prev: &[i32], cur: &[i32], vals: &mut [i32]) -> Tru
     };
     let mut at: usize = 0;
     while at < code.len() {
-        let Plain::Instruction(op, n, next) = read(code, at) else {
+        let Single::Instruction(op, n, next) = read(code, at) else {
             return Truth::Fault;
         };
         let Stepped::Next(t) = work(prev, cur, vals, k, op, n) else {

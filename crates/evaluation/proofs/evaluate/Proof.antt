@@ -6,7 +6,7 @@ use native.Mathlib.Omega.{arith}
 use borrow.Author.Needs.{needs}
 use lib.ListN.{length}
 use Rattle.bytecode.specs.Instructions.{instructionOf}
-use Rattle.bytecode.specs.Results.{plainRead, PlainWithin}
+use Rattle.bytecode.specs.Results.{singleRead, SingleWithin}
 use Rattle.machine.specs.Inner.Memory.{Few}
 use Rattle.evaluation.specs.Conditions.{Tells}
 use Rattle.evaluation.proofs.Going.{Going, begins, ended, broken, taken, refused, again}
@@ -26,10 +26,10 @@ same-length : tie.Need-same-length Inv-loop μ-loop
 same-length c = let d = c .before .before .before .before .loop .inv .deep in search needs
 
 returns : tie.Need-returns Inv-loop μ-loop
-returns c = λ x d l. absurd (broken (c .before .before .before .before .loop .inv .goes x d l) (c .before .before .before .loop-test .taken) (sym (ap plainRead (c .enum-told .given .1)) ∙ c .before .before .read .ensures .0))
+returns c = λ x d l. absurd (broken (c .before .before .before .before .loop .inv .goes x d l) (c .before .before .before .loop-test .taken) (sym (ap singleRead (c .enum-told .given .1)) ∙ c .before .before .read .ensures .0))
 
 work-requires : tie.Need-work-requires Inv-loop μ-loop
-work-requires c κs = (c .before .before .before .before .before .before .loop .inv .stack, subst (PlainWithin (length (c .before .before .before .before .before .before .before .before .args .code .now)) (c .before .before .before .before .before .before .loop .at)) (c .before .before .op .given .1) (c .before .before .before .before .read .ensures .1) .operand)
+work-requires c κs = (c .before .before .before .before .before .before .loop .inv .stack, subst (SingleWithin (length (c .before .before .before .before .before .before .before .before .args .code .now)) (c .before .before .before .before .before .before .loop .at)) (c .before .before .op .given .1) (c .before .before .before .before .read .ensures .1) .operand)
 
 same-length-2 : tie.Need-same-length-2 Inv-loop μ-loop
 same-length-2 c = let d = c .before .before .before .before .before .before .before .before .before .before .loop .inv .deep in search needs
@@ -37,16 +37,16 @@ same-length-2 c = let d = c .before .before .before .before .before .before .bef
 returns-2 : tie.Need-returns-2 Inv-loop μ-loop
 returns-2 c =
     let f = c .before .before .before .before .before .before .op .given in
-    λ x d l. (_, refused (taken (c .before .before .before .before .before .before .before .before .before .before .loop .inv .goes x d l) (c .before .before .before .before .before .before .before .before .before .loop-test .taken) (instructionOf (f .0 .0) (f .0 .1 .0)) (f .0 .1 .1 .0) (sym (ap plainRead (f .1)) ∙ c .before .before .before .before .before .before .before .before .read .ensures .0)) l (c .before .before .before .work .result) (c .before .before .before .work .last .1 .1 .0) (c .before .before .before .work .ensures .0) _ (c .enum-told2 .given .1))
+    λ x d l. (_, refused (taken (c .before .before .before .before .before .before .before .before .before .before .loop .inv .goes x d l) (c .before .before .before .before .before .before .before .before .before .loop-test .taken) (instructionOf (f .0 .0) (f .0 .1 .0)) (f .0 .1 .1 .0) (sym (ap singleRead (f .1)) ∙ c .before .before .before .before .before .before .before .before .read .ensures .0)) l (c .before .before .before .work .result) (c .before .before .before .work .last .1 .1 .0) (c .before .before .before .work .ensures .0) _ (c .enum-told2 .given .1))
 
 loop-less : tie.Need-loop-less Inv-loop μ-loop
 loop-less c =
-    let b = subst (PlainWithin (length (c .before .before .before .before .before .before .before .before .before .before .before .before .before .args .code .now)) (c .before .before .before .before .before .before .before .before .before .before .before .loop .at)) (c .before .before .before .before .before .before .before .op .given .1) (c .before .before .before .before .before .before .before .before .before .read .ensures .1) in
+    let b = subst (SingleWithin (length (c .before .before .before .before .before .before .before .before .before .before .before .before .before .args .code .now)) (c .before .before .before .before .before .before .before .before .before .before .before .loop .at)) (c .before .before .before .before .before .before .before .op .given .1) (c .before .before .before .before .before .before .before .before .before .read .ensures .1) in
     omega (arith, b .behind, c .before .before .before .before .before .before .before .before .before .before .loop-test .taken)
 
 loop-again : tie.Need-loop-again Inv-loop μ-loop
 loop-again c =
-    let b = subst (PlainWithin (length (c .before .before .before .before .before .before .before .before .before .before .before .before .before .args .code .now)) (c .before .before .before .before .before .before .before .before .before .before .before .loop .at)) (c .before .before .before .before .before .before .before .op .given .1) (c .before .before .before .before .before .before .before .before .before .read .ensures .1) in
+    let b = subst (SingleWithin (length (c .before .before .before .before .before .before .before .before .before .before .before .before .before .args .code .now)) (c .before .before .before .before .before .before .before .before .before .before .before .loop .at)) (c .before .before .before .before .before .before .before .op .given .1) (c .before .before .before .before .before .before .before .before .before .read .ensures .1) in
     let i = c .before .before .before .before .before .before .before .before .before .before .before .loop .inv in
     let f = c .before .before .before .before .before .before .before .op .given in
     let few = subst Few (c .before .t .given .1) (c .before .before .before .before .work .ensures .1) in
@@ -55,7 +55,7 @@ loop-again c =
       stack = record { few = few; room = omega (arith, i .stack .room, deep) };
       deep = deep ∙ i .deep;
       within = b .inside;
-      goes = λ x d l. again (taken (i .goes x d l) (c .before .before .before .before .before .before .before .before .before .before .loop-test .taken) (instructionOf (f .0 .0) (f .0 .1 .0)) (f .0 .1 .1 .0) (sym (ap plainRead (f .1)) ∙ c .before .before .before .before .before .before .before .before .before .read .ensures .0)) l (c .before .before .before .before .work .result) (c .before .before .before .before .work .last .1 .1 .0) (c .before .before .before .before .work .ensures .0) (c .before .t .given .0 .0) (c .before .t .given .1);
+      goes = λ x d l. again (taken (i .goes x d l) (c .before .before .before .before .before .before .before .before .before .before .loop-test .taken) (instructionOf (f .0 .0) (f .0 .1 .0)) (f .0 .1 .1 .0) (sym (ap singleRead (f .1)) ∙ c .before .before .before .before .before .before .before .before .before .read .ensures .0)) l (c .before .before .before .before .work .result) (c .before .before .before .before .work .last .1 .1 .0) (c .before .before .before .before .work .ensures .0) (c .before .t .given .0 .0) (c .before .t .given .1);
     }
 
 answer-requires : tie.Need-answer-requires Inv-loop μ-loop
