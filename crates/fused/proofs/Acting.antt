@@ -73,8 +73,8 @@ module _ {code : List ℕ} {low high prev cur vals : List ℤ} {b : Progress} (r
   comparison-at-hand byte is least most = lone-at-hand byte is (no-operand byte (omega arith) (omega arith)) (comparison (comparisonOf byte)) (comparison-of byte 0 least most)
 
 -- comparisons of a code byte
-pub comparison-done : (byte : ℕ) → byte ≤ 15 → (next : ℕ) (b : Progress) (vals vals₁ : List ℤ) (r : Acted) → RelatedBy byte 0 next b vals vals₁ r → DoneBy (comparison (comparisonOf byte)) next b vals vals₁ r
-comparison-done byte most next b vals vals₁ r d =
+pub comparison-acts : (byte : ℕ) → byte ≤ 15 → (next : ℕ) (b : Progress) (vals vals₁ : List ℤ) (r : Acted) → RelatedBy byte 0 next b vals vals₁ r → DoneBy (comparison (comparisonOf byte)) next b vals vals₁ r
+comparison-acts byte most next b vals vals₁ r d =
     d (comparison (comparisonOf byte)) (comparison-is (comparisonOf byte) (knownOf (b .walk))) (λ ns s t k vs. related-same (compares (comparisonOf byte)) (truthOf byte) k vs t (λ x y. sym (truth-comparison byte x y (omega (arith, most)))))
 
 -- ---- several
@@ -99,9 +99,9 @@ then-acts {code} {low} {high} {prev} {b} {vals} {cur} {vals₁} {vals₂} p q j 
     (o .0, goes-on 1 b vals cur p vals₁ cur (g .1) deep refl 1 q vals₂ cur (o .1))
 
 -- one, and none behind it
-pub then-none : {code : List ℕ} {low high prev : List ℤ} {b : Progress} {vals cur vals₁ vals₂ : List ℤ} (p : Progress) (r : Acted) → (p .passing ≡ false) × Goes code low high prev 1 b vals cur p vals₁ cur
+pub then-stays : {code : List ℕ} {low high prev : List ℤ} {b : Progress} {vals cur vals₁ vals₂ : List ℤ} (p : Progress) (r : Acted) → (p .passing ≡ false) × Goes code low high prev 1 b vals cur p vals₁ cur
     → ActedOnce code low high prev p vals₁ cur vals₂ r → r ≡ A.Other → ActedBy code low high prev b vals cur vals₂ (A.On p 1)
-then-none {code} {low} {high} {prev} {b} {vals} {cur} {vals₁} {vals₂} p r g h e =
+then-stays {code} {low} {high} {prev} {b} {vals} {cur} {vals₁} {vals₂} p r g h e =
     subst (λ (l : List ℤ). ActedBy code low high prev b vals cur l (A.On p 1)) (sym (once-none code low high prev p vals₁ cur vals₂ r h e)) g
 
 module _ {code : List ℕ} {low high prev : List ℤ} {b : Progress} {vals cur : List ℤ} where

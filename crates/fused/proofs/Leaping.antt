@@ -38,7 +38,7 @@ use Rattle.fused.specs.declared.ahead.Leap.{Leap}
 use Rattle.fused.specs.declared.ahead.Seen.{Seen}
 use Rattle.fused.specs.declared.ahead.Seen.the-variants as N
 use Rattle.fused.specs.Inner.Passes.{Ready, Moves, MovesBy}
-use Rattle.fused.specs.Inner.Leaps.{withSort, Made, FoundBy, PairSeen, SeenBy, Goes, lastly, first, leapOf, LeapsBy}
+use Rattle.fused.specs.Inner.Leaps.{withSort, MadeOf, FoundBy, PairSeen, SeenBy, Goes, lastly, first, leapOf, LeapsBy}
 use Rattle.machine.proofs.Fetches.{short-fetch, second-is}
 use Rattle.fused.proofs.Joining.{arrives}
 
@@ -58,7 +58,7 @@ number-sort : (w : Walk) → some (knownOf (withNumber w)) ≡ some (knownOf (wi
 number-sort w = let e : w .sorts * 2 + 0 ≡ w .sorts * 2 = omega arith in rw e
 
 module _ (w : Walk) (byte : ℕ) (a b v : ℤ) where
-  pub operation-made : 4 ≤ byte → byte ≤ 8 → arithmetic (operationOf byte) a b ≡ ok v → Made w byte a b v 0
+  pub operation-made : 4 ≤ byte → byte ≤ 8 → arithmetic (operationOf byte) a b ≡ ok v → MadeOf w byte a b v 0
   operation-made l h e =
       record {
         acting = operation (operationOf byte);
@@ -69,7 +69,7 @@ module _ (w : Walk) (byte : ℕ) (a b v : ℤ) where
         worked = λ ns s t c vs. rw e;
       }
 
-  pub comparison-made : 10 ≤ byte → byte ≤ 15 → w .gate ≡ 0 → v ≡ bit (truthOf byte a b) → Made w byte a b v 1
+  pub comparison-made : 10 ≤ byte → byte ≤ 15 → w .gate ≡ 0 → v ≡ bit (truthOf byte a b) → MadeOf w byte a b v 1
   comparison-made l h shut e =
       record {
         acting = comparison (comparisonOf byte);
@@ -87,7 +87,7 @@ module _ (code : List ℕ) (prev cur : List ℤ) (at : ℕ) (w : Walk) (small : 
   module _ (byte : ℕ) (is : getD code at 0 ≡ byte) (has : hasOperand byte ≡ true) (loading : Instruction) (i : instructionOf byte (getD code (at + 1) 0) ≡ some loading)
       (e : advance loading (knownOf w) ≡ pushed (knownOf w)) (x : ℤ)
       (loads : (ns : Setting) (c : Bool) (vs : List ℤ) → length (ns .ranges) ≡ w .names → perform ns prev loading c vs cur ≡ push x c vs cur) where
-    seen : (v : ℤ) (sort : ℕ) → Made w (getD code (at + 4) 0) x (unzigzag (getD code (at + 3) 0)) v sort → PairSeen code prev cur at w v sort
+    seen : (v : ℤ) (sort : ℕ) → MadeOf w (getD code (at + 4) 0) x (unzigzag (getD code (at + 3) 0)) v sort → PairSeen code prev cur at w v sort
     seen v sort m =
         let q : at + 4 + 1 ≡ at + 5 = omega arith in
         record {
@@ -195,8 +195,8 @@ module _ (code : List ℕ) {low high prev cur vals : List ℤ} {b : Progress} (r
       arrives ready-two refl code (b .at + 5) (withSort (b .walk) sort) vals-three cur (some (c .acting)) (c .third) (c .inside) (Kept (withSort (b .walk) sort)) refl
       (sym (c .moved)) sort-small (S.Next (holding (b .walk .held + 1))) (λ ns q. made-three ns) (M.On three-on) refl
 
-  pub pair-goes : Goes code low high prev 3 b vals cur three-on vals-three cur
-  pair-goes =
+  pub pair-leaps : Goes code low high prev 3 b vals cur three-on vals-three cur
+  pair-leaps =
       first 2 b vals cur vals-one cur one-on vals-three cur three-on move-one (length-set vals (b .walk .held) (c .x)) refl
       (first 1 one-on vals-one cur vals-two cur two-on vals-three cur three-on move-two (length-set vals-one (b .walk .held + 1) y) refl
       (lastly two-on vals-two cur vals-three cur three-on move-three))

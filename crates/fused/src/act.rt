@@ -15,7 +15,7 @@ ghost use Rattle.limits.specs.Limits.{stackLimit};
 ghost use Rattle.bytecode.specs.Instructions.{operation, operationOf, negated};
 ghost use Rattle.checker.specs.Inner.Walk.{Small};
 ghost use Rattle.fused.specs.Inner.Passes.{Ready};
-ghost use Rattle.fused.specs.Inner.Acts.{doneOf, ActedBy, SmallOn, PutBy, DoneBy, RelatedBy, WorkedBy, PutOnBy, StretchedBy, Shut, shutOf};
+ghost use Rattle.fused.specs.Inner.Acts.{doneOf, ActedBy, SmallOn, PutBy, DoneBy, RelatedBy, ActedHere, PutOnBy, StretchedBy, Shut, shutOf};
 
 // The progress behind instructions that are done, and how many they are; or it is another, and nothing is done.
 pub enum Acted {
@@ -126,7 +126,7 @@ fn invert(vals: &mut [i32], b: Progress, next: usize) -> Acted
 // The operation or comparison that stands here, on the two numbers on top.
 fn work(code: &[u8], vals: &mut [i32], b: Progress) -> Acted
     requires { ⌜ Small (b .walk) × (b .at < length (now code)) × (stackLimit ≤ length (now vals)) ⌝ }
-    ensures { λ r. ⌜ WorkedBy (now (code .entry)) b (now (vals .entry)) (now (vals .exit)) r ⌝ }
+    ensures { λ r. ⌜ ActedHere (now (code .entry)) b (now (vals .entry)) (now (vals .exit)) r ⌝ }
 {
     let at = b.at;
     let byte = code[at];

@@ -74,8 +74,8 @@ RelatedBy code sort next b vals vals₁ r =
     → ((ns : Setting) (s t : State) (c : Bool) (vs : List ℤ) → perform ns s i c vs t ≡ related (truthOf code) c vs t) → DoneBy i next b vals vals₁ r
 
 -- whatever instruction is at hand
-abbrev pub WorkedBy : List ℕ → Progress → List ℤ → List ℤ → Acted → Type 0
-WorkedBy code b vals vals₁ r = (low high prev cur : List ℤ) → Ready low high prev cur vals b → b .passing ≡ false → ActedOnce code low high prev b vals cur vals₁ r
+abbrev pub ActedHere : List ℕ → Progress → List ℤ → List ℤ → Acted → Type 0
+ActedHere code b vals vals₁ r = (low high prev cur : List ℤ) → Ready low high prev cur vals b → b .passing ≡ false → ActedOnce code low high prev b vals cur vals₁ r
 
 -- as many as stand here, or none
 pub record StretchedBy (code : List ℕ) (low high prev : List ℤ) (b : Progress) (vals cur : List ℤ) (n : ℕ) (k : Progress) (vals₁ : List ℤ) : Type 0 where

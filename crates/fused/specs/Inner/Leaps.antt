@@ -36,7 +36,7 @@ abbrev pub withSort : Walk → ℕ → Walk
 withSort w sort = record { held = w .held + 1; sorts = w .sorts * 2 + sort; gate = w .gate; picking = w .picking; known = w .known; names = w .names }
 
 -- An instruction, by its code byte, that has no operand and makes v, of a sort, of the two numbers held last; the walk lets it pass.
-pub record Made (w : Walk) (byte : ℕ) (a b v : ℤ) (sort : ℕ) : Type 0 where
+pub record MadeOf (w : Walk) (byte : ℕ) (a b v : ℤ) (sort : ℕ) : Type 0 where
   pub acting : Instruction
   pub listed : instructionOf byte 0 ≡ some acting
   pub alone : hasOperand byte ≡ false
@@ -45,7 +45,7 @@ pub record Made (w : Walk) (byte : ℕ) (a b v : ℤ) (sort : ℕ) : Type 0 wher
   pub worked : (ns : Setting) (s t : State) (c : Bool) (vs : List ℤ) → perform ns s acting c (b ∷ a ∷ vs) t ≡ ok (machine false c (v ∷ vs) t)
 
 abbrev pub FoundBy : Walk → ℕ → ℤ → ℤ → Seen → Type 0
-FoundBy w byte a b (N.Value v sort) = Made w byte a b v sort
+FoundBy w byte a b (N.Value v sort) = MadeOf w byte a b v sort
 FoundBy w byte a b N.Other = Unit {0}
 
 -- An instruction that puts x on top, a constant, and one that makes v of the two; there is room for both values.

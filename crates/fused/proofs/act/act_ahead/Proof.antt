@@ -6,7 +6,7 @@ use mir.Syntax.{w32}
 use mir.Facts.{toZ-ofZ}
 use Rattle.checker.proofs.Bits.{below-40}
 use Rattle.fused.specs.Inner.Leaps.{SeenBy}
-use Rattle.fused.proofs.Leaping.{pair-goes}
+use Rattle.fused.proofs.Leaping.{pair-leaps}
 use borrow.Author.Needs.{needs}
 use Rattle.fused.proofs.act.act_ahead.Statement.{statement}
 use Rattle.fused.proofs.act.act_ahead.Tie as tie
@@ -32,7 +32,7 @@ returns-2 c =
     let v = c .before .before .before .v .given .0 .0 in
     let s = subst (λ x. SeenBy (a .code .now) (a .prev .now) (a .cur .now) (a .b .at) (a .b .walk) x) (c .before .before .before .v .given .1) (c .before .before .before .before .before .pair-ahead .ensures) in
     let fv : SFits w32 v = search needs in
-    rw (toZ-ofZ fv) (refl, pair-goes (a .code .now) (c .before .before .before .before .before .before .before .before .pre .0) (c .before .before .before .before .before .before .before .before .pre .1 .1) v _ s)
+    rw (toZ-ofZ fv) (refl, pair-leaps (a .code .now) (c .before .before .before .before .before .before .before .before .pre .0) (c .before .before .before .before .before .before .before .before .pre .1 .1) v _ s)
 
 pub act-ahead-spec : {M : Type 1} → statement M
 act-ahead-spec =

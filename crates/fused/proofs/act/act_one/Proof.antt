@@ -19,7 +19,7 @@ use Rattle.checker.proofs.Steps.{both-is, either-is, constant-is}
 use Rattle.checker.proofs.Stretching.{previous-pushed, current-pushed}
 use Rattle.machine.specs.Inner.Groups.{truthOf}
 use Rattle.fused.proofs.Joining.{with-operand}
-use Rattle.fused.proofs.Acting.{once-acts, lone-at-hand, operation-at-hand, comparison-at-hand, comparison-done}
+use Rattle.fused.proofs.Acting.{once-acts, lone-at-hand, operation-at-hand, comparison-at-hand, comparison-acts}
 use Rattle.fused.proofs.Leaping.{previous-loaded, current-loaded}
 use Rattle.fused.proofs.act.act_one.Statement.{statement}
 use Rattle.fused.proofs.act.act_one.Tie as tie
@@ -113,7 +113,7 @@ returns-14 c =
     let byte = getD (a .code .now) (a .b .at) 0 in
     let most : byte ≤ 15 = omega (arith, c .before .before .before .if7 .taken) in
     once-acts (a .code .now) (a .low .now) (a .high .now) (a .prev .now) (a .b) (a .vals .now) (a .cur .now) _ (c .before .relate3 .result)
-    (comparison-done byte most _ _ _ _ (c .before .relate3 .result) (c .before .relate3 .ensures) (a .code .now) (a .low .now) (a .high .now) (a .prev .now) (a .cur .now) (comparison-at-hand (c .before .before .before .before .before .before .before .before .before .before .before .pre .0) (c .before .before .before .before .before .before .before .before .before .before .before .pre .1 .1) (c .before .before .before .before .before .before .before .before .before .before .before .pre .1 .0) byte refl (c .before .before .before .before .if6 .left) most))
+    (comparison-acts byte most _ _ _ _ (c .before .relate3 .result) (c .before .relate3 .ensures) (a .code .now) (a .low .now) (a .high .now) (a .prev .now) (a .cur .now) (comparison-at-hand (c .before .before .before .before .before .before .before .before .before .before .before .pre .0) (c .before .before .before .before .before .before .before .before .before .before .before .pre .1 .1) (c .before .before .before .before .before .before .before .before .before .before .before .pre .1 .0) byte refl (c .before .before .before .before .if6 .left) most))
 
 pub act-one-spec : {M : Type 1} → statement M
 act-one-spec =

@@ -4,7 +4,7 @@ use native.Mathlib.Omega.{arith}
 use mir.Facts.{toZ-ofZ}
 use Rattle.fused.specs.Inner.Acts.{SmallOn}
 use Rattle.fused.proofs.Fusing.{goes-ready}
-use Rattle.fused.proofs.Acting.{once-on, once-none, then-acts, then-none}
+use Rattle.fused.proofs.Acting.{once-on, once-none, then-acts, then-stays}
 use borrow.Author.Needs.{needs}
 use Rattle.fused.proofs.act.put_constant.Statement.{statement}
 use Rattle.fused.proofs.act.put_constant.Tie as tie
@@ -27,7 +27,7 @@ returns-3 c low high prev cur h =
     let p = rw (toZ-ofZ (c .before .before .before .before .before .before .before .before .before .before .before .before .before .before .fits .v)) at (c .before .before .before .before .before .before .before .before .before .before .before .put .ensures .0) in
     let o = once-on _ _ _ _ _ _ _ _ (c .before .before .before .before .before .before .before .before .before .before .before .put .result) (p (c .before .before .before .before .before .before .before .before .before .before .before .before .before .before .args .code .now) low high prev cur h) _ _ (c .before .before .before .before .before .before .before .before .p .given .1) in
     let r = goes-ready 1 _ _ _ _ _ _ (o .1) (h .at-hand .ready) (c .before .before .before .before .before .before .before .before .before .before .before .put .kept .0) refl in
-    then-none (c .before .before .before .before .before .before .before .before .p .given .0 .0) (c .before .before .before .work .result) o (c .before .before .before .work .ensures low high prev cur r (o .0)) (c .enum-told2 .given .1)
+    then-stays (c .before .before .before .before .before .before .before .before .p .given .0 .0) (c .before .before .before .work .result) o (c .before .before .before .work .ensures low high prev cur r (o .0)) (c .enum-told2 .given .1)
 
 returns-4 : tie.Need-returns-4
 returns-4 c low high prev cur h =

@@ -2,7 +2,7 @@
 use mathlib.Core.Path.{refl}
 use native.Mathlib.Omega.{arith}
 use lib.ListN.{getD}
-use Rattle.fused.proofs.Acting.{operation-at-hand, comparison-at-hand, comparison-done}
+use Rattle.fused.proofs.Acting.{operation-at-hand, comparison-at-hand, comparison-acts}
 use borrow.Author.Needs.{needs}
 use Rattle.fused.proofs.act.work.Statement.{statement}
 use Rattle.fused.proofs.act.work.Tie as tie
@@ -16,7 +16,7 @@ returns-2 : tie.Need-returns-2
 returns-2 c low high prev cur r go =
     let code = c .before .before .before .before .before .before .before .before .before .args .code .now in
     let byte = getD code (c .before .before .before .before .before .before .before .before .before .args .b .at) 0 in
-    comparison-done byte (omega (arith, c .before .before .before .if4 .taken)) _ _ _ _ (c .before .relate .result) (c .before .relate .ensures) code low high prev cur (comparison-at-hand r go (c .before .before .before .before .before .before .before .before .before .pre .1) byte refl (c .before .before .before .before .if3 .left) (omega (arith, c .before .before .before .if4 .taken)))
+    comparison-acts byte (omega (arith, c .before .before .before .if4 .taken)) _ _ _ _ (c .before .relate .result) (c .before .relate .ensures) code low high prev cur (comparison-at-hand r go (c .before .before .before .before .before .before .before .before .before .pre .1) byte refl (c .before .before .before .before .if3 .left) (omega (arith, c .before .before .before .if4 .taken)))
 
 pub work-spec : {M : Type 1} → statement M
 work-spec =
