@@ -15,9 +15,6 @@ use Rattle.bytecode.specs.Check.{complete}
 use Rattle.bytecode.specs.Inner.Timers.{NoTimers}
 use Rattle.bytecode.proofs.Fetching.{one-fetched}
 use Rattle.bytecode.proofs.RoundTrip.{one-next}
-use Rattle.bytecode.proofs.Soundness.{advance-small}
-use Rattle.arith.specs.Inner.Flags.{flagsOf}
-use Rattle.arith.proofs.Flags.{length-flags}
 use Rattle.checker.specs.Inner.Walk.{knownOf, initialWalk}
 use Rattle.checker.specs.declared.Verdict.{Verdict}
 use Rattle.checker.specs.declared.Verdict.the-variants as J
@@ -36,6 +33,7 @@ use Rattle.fused.specs.declared.Ended.{Ended}
 use Rattle.fused.specs.declared.Ended.the-variants as E
 use Rattle.fused.specs.Inner.Passes.{registersOf, Ready, BreaksAt, Moves, Refuses, RefusedBy, CheckedCode, BrokenBy, BrokenCode, Succeeds, Fails, RunBy}
 use Rattle.fused.specs.Inner.Leaps.{Goes, lastly, first, LeapsBy, LeapsFirst}
+use Rattle.fused.proofs.Joining.{same-names}
 
 -- the settings that lows and highs stand for
 abbrev Settings : List ℤ → List ℤ → Setting → Type 0
@@ -71,11 +69,9 @@ fusing-begins code low high prev inputs cur vals named l m room =
 pub moves-ready : {code : List ℕ} {low high prev cur vals : List ℤ} {b : Progress} → Ready low high prev cur vals b → (vals₁ cur₁ : List ℤ) (k : Progress) → Moves code low high prev b vals cur vals₁ cur₁ k → length vals₁ ≡ length vals → length cur₁ ≡ length cur
     → Ready low high prev cur₁ vals₁ k
 moves-ready {b = b} r vals₁ cur₁ k m deeper wider =
-    let i = m .instruction in
-    let names : length (flagsOf (k .walk .names) (k .walk .known)) ≡ length (flagsOf (b .walk .names) (b .walk .known)) = advance-small i (knownOf (b .walk)) (knownOf (k .walk)) (omega (arith, length-flags (b .walk .names) (b .walk .known), r .small .few-names)) (m .advanced) .1 in
     record {
       small = m .small;
-      sized = sym (length-flags (k .walk .names) (k .walk .known)) ∙ names ∙ length-flags (b .walk .names) (b .walk .known) ∙ r .sized;
+      sized = same-names (m .instruction) (b .walk) (k .walk) (r .small) (m .advanced) ∙ r .sized;
       room = omega (arith, r .room);
       named = record { highs = r .named .highs; previous = r .named .previous; current = wider ∙ r .named .current };
       opened = m .opened;
@@ -202,27 +198,34 @@ fusing-leaps {code} {low} {high} {prev} {inputs} {cur₀} {vals₀} {steps} _ _ 
 
 -- ---- what is passed over first
 
-module _ {code : List ℕ} {low high prev : List ℤ} {inputs : ℕ} {cur₀ vals₀ cur vals : List ℤ} {b : Progress} {steps : ℕ}
-    (f : Fusing code low high prev inputs cur₀ vals₀ cur vals b steps) where
-  first-leapt : (r : Leap) (k : Progress) (n : ℕ) → LeapsFirst code b r → r ≡ L.On k n → LeapsFirst code b (L.On k n)
-  first-leapt r k n h e = subst (λ (x : Leap). LeapsFirst code b x) e h
+pub first-not-refused : (code : List ℕ) (prev : List ℤ) (b : Progress) (cur cur₁ : List ℤ) (r : Leap) (k : Progress) (number : ℕ) → LeapsFirst code prev b cur cur₁ r → r ≡ L.Refused k number → ⊥
+first-not-refused code prev b cur cur₁ r k number h e = subst (λ (x : Leap). LeapsFirst code prev b cur cur₁ x) e h
 
-  pub fusing-first : (r : Leap) (k : Progress) (n : ℕ) → LeapsFirst code b r → r ≡ L.On k n → Fusing code low high prev inputs cur₀ vals₀ cur vals k (steps + n)
-  fusing-first r k n h e = by (first-leapt r k n h e)
+pub first-broken : (code : List ℕ) (prev : List ℤ) (b : Progress) (cur cur₁ : List ℤ) (r : Leap) → LeapsFirst code prev b cur cur₁ r → r ≡ L.Broken → BreaksAt code b
+first-broken code prev b cur cur₁ r h e = subst (λ (x : Leap). LeapsFirst code prev b cur cur₁ x) e h
+
+module _ {code : List ℕ} {low high prev : List ℤ} {inputs : ℕ} {cur₀ vals₀ cur vals : List ℤ} {b : Progress} {steps : ℕ}
+    (f : Fusing code low high prev inputs cur₀ vals₀ cur vals b steps) (cur₁ : List ℤ) (r : Leap) (k : Progress) (n : ℕ) (h : LeapsFirst code prev b cur cur₁ r) (e : r ≡ L.On k n) where
+  first-leapt : LeapsFirst code prev b cur cur₁ (L.On k n)
+  first-leapt = subst (λ (x : Leap). LeapsFirst code prev b cur cur₁ x) e h
+
+  pub fusing-first : length cur₁ ≡ length cur → Fusing code low high prev inputs cur₀ vals₀ cur₁ vals k (steps + n)
+  fusing-first wider = by first-leapt
     where
-      by : LeapsFirst code b (L.On k n) → Fusing code low high prev inputs cur₀ vals₀ cur vals k (steps + n)
+      by : LeapsFirst code prev b cur cur₁ (L.On k n) → Fusing code low high prev inputs cur₀ vals₀ cur₁ vals k (steps + n)
       by (inl x) =
           let z : steps ≡ steps + n = omega (arith, x .2) in
-          subst (λ (s : ℕ). Fusing code low high prev inputs cur₀ vals₀ cur vals k s) z (subst (λ (p : Progress). Fusing code low high prev inputs cur₀ vals₀ cur vals p steps) (sym (x .1)) f)
-      by (inr x) = fusing-leaps n b vals cur k vals cur (x .1 low high prev cur vals (f .ready)) f refl refl
+          let on = subst (λ (p : Progress). Fusing code low high prev inputs cur₀ vals₀ cur vals p steps) (sym (x .1)) f in
+          subst (λ (s : ℕ). Fusing code low high prev inputs cur₀ vals₀ cur₁ vals k s) z (subst (λ (c : List ℤ). Fusing code low high prev inputs cur₀ vals₀ c vals k steps) (sym (x .3)) on)
+      by (inr x) = fusing-leaps n b vals cur k vals cur₁ (x .1 low high vals (f .ready)) f refl wider
 
   -- how far: so many bytes at least; and nothing is passed over where none went
-  pub first-far : b .at < length code → (r : Leap) (k : Progress) (n : ℕ) → LeapsFirst code b r → r ≡ L.On k n → (b .at + n ≤ k .at) × (k .at ≤ length code) × ((b .at < k .at) ⊎ (k .passing ≡ false))
-  first-far l r k n h e = by (first-leapt r k n h e)
+  pub first-far : b .at < length code → (b .at + n ≤ k .at) × (k .at ≤ length code) × ((b .at < k .at) ⊎ (k .passing ≡ false))
+  first-far l = by first-leapt
     where
-      by : LeapsFirst code b (L.On k n) → (b .at + n ≤ k .at) × (k .at ≤ length code) × ((b .at < k .at) ⊎ (k .passing ≡ false))
+      by : LeapsFirst code prev b cur cur₁ (L.On k n) → (b .at + n ≤ k .at) × (k .at ≤ length code) × ((b .at < k .at) ⊎ (k .passing ≡ false))
       by (inl x) = let same = ap (λ (p : Progress). p .at) (x .1) in (omega (arith, same, x .2), omega (arith, same, l), inr (ap (λ (p : Progress). p .passing) (x .1) ∙ x .0))
       by (inr x) =
-          let far = goes-far n b vals cur k vals cur (x .1 low high prev cur vals (f .ready)) in
+          let far = goes-far n b vals cur k vals cur₁ (x .1 low high vals (f .ready)) in
           let less : b .at < k .at = omega (arith, far .0, far .2) in
           (far .0, far .1, inl less)

@@ -13,7 +13,7 @@ use Rattle.semantics.specs.Shape.{Setting}
 use Rattle.leb128.specs.Numbers.{Read, got, nothing, numberAt}
 use Rattle.bytecode.specs.Instructions.{Instruction, instructionOf, hasOperand, decoded, fetchOne}
 use Rattle.bytecode.specs.Check.{advance}
-use Rattle.bytecode.proofs.Soundness.{none≢some, idsOf}
+use Rattle.bytecode.proofs.Soundness.{none≢some, idsOf, advance-small}
 use Rattle.bytecode.specs.Signature.{signature}
 use Rattle.bytecode.proofs.Timeless.{TimelessIn, one-timeless}
 use Rattle.bytecode.proofs.Fetching.{fetch-alone, fetch-number, fetch-malformed}
@@ -70,6 +70,11 @@ aligned w true c n vals cur m = m .1 ∙ sym (held-none vals)
 pub opens : (w : Walk) (p c : Bool) (n : ℕ) (vals cur : List ℤ) → Matches (knownOf w) (machine p c (heldOf vals n) cur) → p ≡ true → openOf (w .gate) ≡ true
 opens w false c n vals cur m e = absurd (false≢true e)
 opens w true c n vals cur m e = m .0
+
+-- an instruction leaves as many names
+pub same-names : (i : Instruction) (w k : Walk) → Small w → advance i (knownOf w) ≡ some (knownOf k) → k .names ≡ w .names
+same-names i w k small e =
+    sym (length-flags (k .names) (k .known)) ∙ advance-small i (knownOf w) (knownOf k) (omega (arith, length-flags (w .names) (w .known), small .few-names)) e .1 ∙ length-flags (w .names) (w .known)
 
 module _ {low high prev cur vals : List ℤ} {b : Progress} (r : Ready low high prev cur vals b) where
   -- the ranges that the memory stands for, with any starts

@@ -9,20 +9,28 @@ use mathlib.Core.Option.{Option, some}
 use lib.IntN.{ℤ}
 use lib.ListN.{length, getD}
 use Rattle.arith.specs.Inner.Flags.{flagsOf}
+use Rattle.arith.specs.Values.{ok}
+use Rattle.semantics.specs.Shape.{Setting}
 use Rattle.leb128.specs.Numbers.{got, numberAt, unzigzag}
-use Rattle.bytecode.specs.Instructions.{Instruction, constant, current, previous, operation, operationOf, instructionOf, hasOperand, decoded, fetchOne}
+use Rattle.bytecode.specs.Instructions.{Instruction, constant, current, previous, operation, settle, operationOf, instructionOf, hasOperand, decoded, fetchOne}
 use Rattle.bytecode.specs.Check.{Known, advance}
 use Rattle.bytecode.proofs.Codes.{operation-of, no-operand}
 use Rattle.bytecode.proofs.Fetching.{fetch-alone, fetch-number, number-within}
 use Rattle.bytecode.proofs.RoundTrip.{one-next}
+use Rattle.bytecode.proofs.Soundness.{none≢some}
 use Rattle.checker.specs.declared.advance.Walk.{Walk}
-use Rattle.checker.specs.Inner.Walk.{knownOf, openOf, pushed, Small}
+use Rattle.checker.specs.declared.advance.Advanced.{Advanced}
+use Rattle.checker.specs.declared.advance.Advanced.the-variants.{Kept}
+use Rattle.checker.specs.Inner.Walk.{knownOf, openOf, pushed, advancedKnown, advanceBy, Small, SmallAfter}
 use Rattle.checker.specs.Inner.Stretches.{withNumber}
 use Rattle.checker.specs.Results.{BreaksUnlessTimed}
 use Rattle.checker.proofs.Bits.{join-low}
 use Rattle.checker.proofs.Steps.{operation-is, constant-is}
 use Rattle.checker.proofs.Stretching.{pushed-is, number-small, two-joined, previous-pushed, current-pushed}
-use Rattle.machine.specs.Step.{isPick}
+use Rattle.machine.specs.declared.Stepped.the-variants as S
+use Rattle.machine.specs.Step.{machine, isPick, perform}
+use Rattle.machine.specs.Inner.Memory.{heldOf}
+use Rattle.machine.proofs.Changes.{names-length}
 use Rattle.fused.specs.declared.Progress.{Progress}
 use Rattle.fused.specs.declared.Moved.{Moved}
 use Rattle.fused.specs.declared.Moved.the-variants as M
@@ -30,9 +38,13 @@ use Rattle.fused.specs.declared.ahead.Leap.{Leap}
 use Rattle.fused.specs.declared.ahead.Leap.the-variants as L
 use Rattle.fused.specs.declared.ahead.Skipped.{Skipped}
 use Rattle.fused.specs.declared.ahead.Skipped.the-variants as K
+use Rattle.fused.specs.declared.ahead.Settled.{Settled}
+use Rattle.fused.specs.declared.ahead.Settled.the-variants as T
 use Rattle.fused.specs.Inner.Passes.{Ready, BreaksAt, Moves, PassesBy}
-use Rattle.fused.specs.Inner.Leaps.{withHeld, Skips, SkippedBy, SkipsTo, stays, further, Goes, lastly, first, LeapsOver, LeapsFirst}
-use Rattle.fused.proofs.Passing.{over-moves-by}
+use Rattle.fused.specs.Inner.Leaps.{withHeld, Skips, SkippedBy, SkipsTo, stays, further, SettledBy, Goes, lastly, first, LeapsOver, LeapsFirst}
+use Rattle.fused.proofs.Joining.{arrives, with-operand}
+use Rattle.fused.proofs.Fusing.{moves-ready}
+use Rattle.fused.proofs.Passing.{open-breaks, over-moves-by}
 
 -- ---- one instruction, where nothing but numbers are held
 
@@ -146,25 +158,33 @@ module _ (code : List ℕ) {low high prev cur vals : List ℤ} {b : Progress} (r
       }
 
   -- and what goes on behind them
-  pub over-then : (n : ℕ) (k : Walk) (next : ℕ) → SkipsTo code (b .walk) (b .at) n k next → (m : ℕ) (last : Progress) → Goes code low high prev m (passingAt b k next) vals cur last vals cur
-      → Goes code low high prev (n + m) b vals cur last vals cur
-  over-then _ _ _ stays m last g =
+  pub over-then : (n : ℕ) (k : Walk) (next : ℕ) → SkipsTo code (b .walk) (b .at) n k next → (m : ℕ) (last : Progress) (cur₁ : List ℤ) → Goes code low high prev m (passingAt b k next) vals cur last vals cur₁
+      → Goes code low high prev (n + m) b vals cur last vals cur₁
+  over-then _ _ _ stays m last cur₁ g =
       let e : m ≡ 0 + m = omega arith in
-      subst (λ (t : ℕ). Goes code low high prev t b vals cur last vals cur) e (subst (λ (x : Progress). Goes code low high prev m x vals cur last vals cur) (itself b go) g)
-  over-then _ _ _ (further n k next j later o s) m last g =
+      subst (λ (t : ℕ). Goes code low high prev t b vals cur last vals cur₁) e (subst (λ (x : Progress). Goes code low high prev m x vals cur last vals cur₁) (itself b go) g)
+  over-then _ _ _ (further n k next j later o s) m last cur₁ g =
       let e : n + (1 + m) ≡ n + 1 + m = omega arith in
-      subst (λ (t : ℕ). Goes code low high prev t b vals cur last vals cur) e
-      (over-then n k next o (1 + m) last (first m (passingAt b k next) vals cur vals cur (passingAt b j later) vals cur last (skip-moves k next j later (ready-at n k next o) s) refl refl g))
+      subst (λ (t : ℕ). Goes code low high prev t b vals cur last vals cur₁) e
+      (over-then n k next o (1 + m) last cur₁ (first m (passingAt b k next) vals cur vals cur (passingAt b j later) vals cur₁ last (skip-moves k next j later (ready-at n k next o) s) refl refl g))
 
   pub over-goes : (n : ℕ) (k : Walk) (next : ℕ) → SkipsTo code (b .walk) (b .at) n k next → 1 ≤ n → Goes code low high prev n b vals cur (passingAt b k next) vals cur
   over-goes _ _ _ stays l = let f : ⊥ = omega arith in absurd f
   over-goes _ _ _ (further n k next j later o s) l =
-      over-then n k next o 1 (passingAt b j later) (lastly (passingAt b k next) vals cur vals cur (passingAt b j later) (skip-moves k next j later (ready-at n k next o) s))
+      over-then n k next o 1 (passingAt b j later) cur (lastly (passingAt b k next) vals cur vals cur (passingAt b j later) (skip-moves k next j later (ready-at n k next o) s))
 
-  -- those up to the pick, and the pick
-  pub over-pick : (n : ℕ) (k : Walk) (next : ℕ) → SkipsTo code (b .walk) (b .at) n k next → (q : Progress) → PassesBy code (passingAt b k next) (M.On q) → Goes code low high prev (n + 1) b vals cur q vals cur
-  over-pick n k next o q p =
-      over-then n k next o 1 q (lastly (passingAt b k next) vals cur vals cur q (over-moves-by code (ready-at n k next o) refl (M.On q) p))
+  module _ (n : ℕ) (k : Walk) (next : ℕ) (o : SkipsTo code (b .walk) (b .at) n k next) (q : Progress) (p : PassesBy code (passingAt b k next) (M.On q)) where
+    pick-moves : Moves code low high prev (passingAt b k next) vals cur vals cur q
+    pick-moves = over-moves-by code (ready-at n k next o) refl (M.On q) p
+
+    -- those up to the pick, and the pick
+    pub over-pick : (cur₁ : List ℤ) → cur₁ ≡ cur → Goes code low high prev (n + 1) b vals cur q vals cur₁
+    over-pick cur₁ e = rw e (over-then n k next o 1 q cur (lastly (passingAt b k next) vals cur vals cur q pick-moves))
+
+    -- and a settle behind it
+    pub over-settle : (t : Progress) (cur₁ : List ℤ) → SettledBy code prev q cur cur₁ (T.On t) → Goes code low high prev (n + 2) b vals cur t vals cur₁
+    over-settle t cur₁ s =
+        over-then n k next o 2 t cur₁ (first 1 (passingAt b k next) vals cur vals cur q vals cur₁ t pick-moves refl refl (lastly q vals cur vals cur₁ t (s low high vals (moves-ready (ready-at n k next o) vals cur q pick-moves refl refl))))
 
 -- ---- what an instruction that is passed over leads to
 
@@ -177,7 +197,33 @@ breaks-here code b n k next o e h =
     let same = skips-none code (b .walk) (b .at) n k next o e in
     subst (λ (x : ℕ). BreaksUnlessTimed code x (knownOf (b .walk))) (same .1) (subst (λ (x : Walk). BreaksUnlessTimed code next (knownOf x)) (same .0) h)
 
-pub first-over : (code : List ℕ) (b : Progress) (r : Leap) → b .passing ≡ true → LeapsOver code b r → LeapsFirst code b r
-first-over code b (L.On k n) go h = inr (go, h)
-first-over code b (L.Refused k number) go h = h
-first-over code b L.Broken go h = h
+pub first-over : (code : List ℕ) (prev : List ℤ) (b : Progress) (cur cur₁ : List ℤ) (r : Leap) → b .passing ≡ true → LeapsOver code prev b cur cur₁ r → LeapsFirst code prev b cur cur₁ r
+first-over code prev b cur cur₁ (L.On k n) go h = inr (go, h)
+first-over code prev b cur cur₁ (L.Refused k number) go h = h
+first-over code prev b cur cur₁ L.Broken go h = h
+
+-- ---- a settle
+
+pub settled-as : (code : List ℕ) (prev : List ℤ) (b : Progress) (cur cur₁ : List ℤ) (m x : Settled) → SettledBy code prev b cur cur₁ m → m ≡ x → SettledBy code prev b cur cur₁ x
+settled-as code prev b cur cur₁ m x h e = subst (λ (y : Settled). SettledBy code prev b cur cur₁ y) e h
+
+module _ (code : List ℕ) (prev : List ℤ) (b : Progress) (cur : List ℤ) (within : b .at < length code) (is : getD code (b .at) 0 ≡ 22) (n next : ℕ) (num : numberAt code (b .at + 1) ≡ got n next) (k : Walk) (a : Advanced)
+    (kept : a ≡ Kept k) (e : advancedKnown a ≡ advanceBy (some (settle n)) (knownOf (b .walk))) (small : SmallAfter a) where
+  -- none stands behind an open gate
+  not-open : openOf (b .walk .gate) ≡ true → ⊥
+  unfolding instructionOf
+  not-open g = none≢some _ (sym (open-breaks (b .walk) g 22 n (omega arith) (λ x. omega (arith, x)) (λ x. omega (arith, x)) (λ x. omega (arith, x))) ∙ sym e ∙ ap advancedKnown kept)
+
+  pub settles : (cur₁ : List ℤ) → ((ns : Setting) (vals : List ℤ) → length (ns .ranges) ≡ length prev → ok (machine false false (heldOf vals (b .walk .held)) cur₁) ≡ perform ns prev (settle n) (b .picked) (heldOf vals (b .walk .held)) cur)
+      → SettledBy code prev b cur cur₁ (T.On (record { walk = k; at = next; picked = false; passing = false }))
+  unfolding instructionOf hasOperand
+  settles cur₁ acts low high vals r =
+      arrives r go code next k vals cur₁ (some (settle n)) (with-operand code b within 22 is refl n next num) (number-within _ _ _ _ num .inside) a kept e small
+      (S.Next (record { held = b .walk .held; picked = false; passing = false })) (λ ns q. acts ns vals (names-length (ns .ranges) low high q ∙ sym (r .named .previous))) _ refl
+    where
+      go : b .passing ≡ false
+      go = by (b .passing) refl
+        where
+          by : (t : Bool) → b .passing ≡ t → b .passing ≡ false
+          by false p = p
+          by true p = absurd (not-open (r .opened p))

@@ -4,6 +4,7 @@ use crate::Moved;
 use crate::Progress;
 use crate::act;
 use checker::advance;
+use checker::advance::Advanced;
 use checker::advance::Walk;
 use machine::values;
 ghost use mathlib.Core.Path.{_≡_};
@@ -12,7 +13,7 @@ ghost use Prim.Native.Nat.{_≤_, _<_};
 ghost use lib.ListN.{length};
 ghost use Rattle.checker.specs.Inner.Walk.{openOf, Small};
 ghost use Rattle.fused.specs.Inner.Passes.{Ready};
-ghost use Rattle.fused.specs.Inner.Leaps.{FoundBy, SeenBy, withHeld, SkippedBy, SkipsTo, leapOf, LeapsBy, LeapsOver, LeapsFirst};
+ghost use Rattle.fused.specs.Inner.Leaps.{FoundBy, SeenBy, withHeld, SkippedBy, SkipsTo, SettledBy, leapOf, LeapsBy, LeapsOver, LeapsFirst};
 
 // What the two make, and its sort; or nothing is seen.
 pub enum Seen {
@@ -25,6 +26,12 @@ pub enum Leap {
     On(Progress, usize),
     Refused(Progress, u8),
     Broken,
+}
+
+// The progress behind a settle; or none stands here.
+enum Settled {
+    On(Progress),
+    Other,
 }
 
 fn wide(x: u8) -> u64
@@ -173,11 +180,46 @@ fn skip(code: &[u8], from: usize, w: Walk) -> Passage
     Passage { held, at, steps }
 }
 
-// Where instructions are passed over: those up to the pick, and the pick; the walk alone moves. Where one behind the first breaks
-// soundness, those before it.
-fn pass_on(code: &[u8], b: Progress) -> Leap
+// A settle that the walk lets pass.
+fn settle_ahead(code: &[u8], prev: &[i32], cur: &mut [i32], b: Progress) -> Settled
+    requires { ⌜ Small (b .walk) × (b .walk .names ≤ length (now prev)) × (length (now cur) ≡ length (now prev)) ⌝ }
+    ensures { λ r. ⌜ SettledBy (now (code .entry)) (now (prev .entry)) b (now (cur .entry)) (now (cur .exit)) r ⌝ }
+{
+    let at = b.at;
+    let w = b.walk;
+    if code.len() <= at {
+        return Settled::Other;
+    }
+    if code[at] != 22 {
+        return Settled::Other;
+    }
+    let leb128::Unsigned::Number(n, next) = leb128::unsigned_at(code, at + 1) else {
+        return Settled::Other;
+    };
+    let Advanced::Kept(k) = advance::settle(w, n) else {
+        return Settled::Other;
+    };
+    if w.names <= n {
+        return Settled::Other;
+    }
+    if !b.picked {
+        let i = n as usize;
+        cur[i] = prev[i];
+    }
+    Settled::On(Progress {
+        walk: k,
+        at: next,
+        picked: false,
+        passing: false,
+    })
+}
+
+// Where instructions are passed over: those up to the pick, the pick, and a settle behind it; until then the walk alone moves. Where one behind
+// the first breaks soundness, those before it.
+fn pass_on(code: &[u8], prev: &[i32], cur: &mut [i32], b: Progress) -> Leap
     requires { ⌜ Small (b .walk) × (b .at < length (now code)) × (openOf (b .walk .gate) ≡ true) × (b .passing ≡ true) ⌝ }
-    ensures { λ r. ⌜ LeapsOver (now (code .entry)) b r ⌝ }
+    requires { ⌜ (b .walk .names ≤ length (now prev)) × (length (now cur) ≡ length (now prev)) ⌝ }
+    ensures { λ r. ⌜ LeapsOver (now (code .entry)) (now (prev .entry)) b (now (cur .entry)) (now (cur .exit)) r ⌝ }
 {
     let w = b.walk;
     let s = skip(code, b.at, w);
@@ -193,7 +235,12 @@ fn pass_on(code: &[u8], b: Progress) -> Leap
         return Leap::On(p, s.steps);
     }
     match crate::pass(code, p) {
-        Moved::On(q) => Leap::On(q, s.steps + 1),
+        Moved::On(q) => {
+            let Settled::On(t) = settle_ahead(code, prev, cur, q) else {
+                return Leap::On(q, s.steps + 1);
+            };
+            Leap::On(t, s.steps + 2)
+        }
         Moved::Refused(q, number) => Leap::Refused(q, number),
         Moved::Broken => {
             if s.steps == 0 {
@@ -205,12 +252,13 @@ fn pass_on(code: &[u8], b: Progress) -> Leap
 }
 
 // Where instructions are passed over, up to the pick; else none.
-pub fn pass_first(code: &[u8], b: Progress) -> Leap
+pub fn pass_first(code: &[u8], prev: &[i32], cur: &mut [i32], b: Progress) -> Leap
     requires { ⌜ Small (b .walk) × (b .at < length (now code)) × (b .passing ≡ true → openOf (b .walk .gate) ≡ true) ⌝ }
-    ensures { λ r. ⌜ LeapsFirst (now (code .entry)) b r ⌝ }
+    requires { ⌜ (b .walk .names ≤ length (now prev)) × (length (now cur) ≡ length (now prev)) ⌝ }
+    ensures { λ r. ⌜ LeapsFirst (now (code .entry)) (now (prev .entry)) b (now (cur .entry)) (now (cur .exit)) r ⌝ }
 {
     if b.passing {
-        return pass_on(code, b);
+        return pass_on(code, prev, cur, b);
     }
     Leap::On(b, 0)
 }

@@ -318,7 +318,7 @@ fn run_in(
     };
     let mut steps = 0;
     'code: while b.at < code.len() {
-        match ahead::pass_first(code, b) {
+        match ahead::pass_first(code, prev, cur, b) {
             Leap::On(k, n) => {
                 b = k;
                 steps += n;

@@ -27,6 +27,8 @@ use Rattle.fused.specs.declared.ahead.Seen.{Seen}
 use Rattle.fused.specs.declared.ahead.Seen.the-variants as N
 use Rattle.fused.specs.declared.ahead.Skipped.{Skipped}
 use Rattle.fused.specs.declared.ahead.Skipped.the-variants as K
+use Rattle.fused.specs.declared.ahead.Settled.{Settled}
+use Rattle.fused.specs.declared.ahead.Settled.the-variants as T
 use Rattle.fused.specs.Inner.Passes.{Ready, Moves, Refuses, BreaksAt}
 
 -- ---- what stands ahead
@@ -96,6 +98,13 @@ pub data SkipsTo (code : List ℕ) (w : Walk) (at : ℕ) : ℕ → Walk → ℕ 
   stays : SkipsTo code w at 0 w at
   further : (n : ℕ) (k : Walk) (next : ℕ) (j : Walk) (later : ℕ) → SkipsTo code w at n k next → Skips code k next j later → SkipsTo code w at (n + 1) j later
 
+-- ---- a settle
+
+-- what is held stays
+abbrev pub SettledBy : List ℕ → List ℤ → Progress → List ℤ → List ℤ → Settled → Type 0
+SettledBy code prev b cur cur₁ (T.On k) = (low high vals : List ℤ) → Ready low high prev cur vals b → Moves code low high prev b vals cur vals cur₁ k
+SettledBy code prev b cur cur₁ T.Other = cur₁ ≡ cur
+
 -- ---- what is done
 
 -- so many instructions, from one progress and memory to another
@@ -114,14 +123,14 @@ LeapsBy code low high prev b vals cur vals₁ cur₁ (L.On k n) = Goes code low 
 LeapsBy code low high prev b vals cur vals₁ cur₁ (L.Refused k number) = Refuses code low high prev b vals cur k number
 LeapsBy code low high prev b vals cur vals₁ cur₁ L.Broken = BreaksAt code b
 
--- only the walk moves; the memory stays
-abbrev pub LeapsOver : List ℕ → Progress → Leap → Type 0
-LeapsOver code b (L.On k n) = (low high prev cur vals : List ℤ) → Ready low high prev cur vals b → Goes code low high prev n b vals cur k vals cur
-LeapsOver code b (L.Refused k number) = ⊥
-LeapsOver code b L.Broken = BreaksAt code b
+-- what is held stays
+abbrev pub LeapsOver : List ℕ → List ℤ → Progress → List ℤ → List ℤ → Leap → Type 0
+LeapsOver code prev b cur cur₁ (L.On k n) = (low high vals : List ℤ) → Ready low high prev cur vals b → Goes code low high prev n b vals cur k vals cur₁
+LeapsOver code prev b cur cur₁ (L.Refused k number) = ⊥
+LeapsOver code prev b cur cur₁ L.Broken = BreaksAt code b
 
 -- the same where instructions are passed over, else nothing
-abbrev pub LeapsFirst : List ℕ → Progress → Leap → Type 0
-LeapsFirst code b (L.On k n) = ((b .passing ≡ false) × (k ≡ b) × (n ≡ 0)) ⊎ ((b .passing ≡ true) × LeapsOver code b (L.On k n))
-LeapsFirst code b (L.Refused k number) = ⊥
-LeapsFirst code b L.Broken = BreaksAt code b
+abbrev pub LeapsFirst : List ℕ → List ℤ → Progress → List ℤ → List ℤ → Leap → Type 0
+LeapsFirst code prev b cur cur₁ (L.On k n) = ((b .passing ≡ false) × (k ≡ b) × (n ≡ 0) × (cur₁ ≡ cur)) ⊎ ((b .passing ≡ true) × LeapsOver code prev b cur cur₁ (L.On k n))
+LeapsFirst code prev b cur cur₁ (L.Refused k number) = ⊥
+LeapsFirst code prev b cur cur₁ L.Broken = BreaksAt code b
