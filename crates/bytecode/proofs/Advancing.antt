@@ -20,10 +20,9 @@ use Rattle.bytecode.specs.Instructions.{Instruction, assign, settle, tim
 use Rattle.bytecode.specs.Translation.{codeE, codeC, codeCase, codeK, codeR, codeT, codeRules, depthE, depthC, ShallowK, ShallowR, Shallow}
 use Rattle.bytecode.specs.Signature.{Sort, truth, times, signature}
 use Rattle.bytecode.specs.Check.{Picks, Known, known, mayBegin, mayFollow, mayEnd, fresh, advance, follows, isTimerRange, suitsIn, suits}
-use Rattle.bytecode.specs.Inner.Places.{lastOf}
 use Rattle.bytecode.proofs.Sides.{Follows, sided-walks}
 use Rattle.bytecode.proofs.Timeless.{Timeless, suits-timeless, timeless-R}
-use Rattle.bytecode.proofs.TimerPlaces.{last-append, bit-timer}
+use Rattle.bytecode.proofs.TimerPlaces.{lastOf, last-append, bit-timer}
 
 -- ---- the code keeps soundness
 
