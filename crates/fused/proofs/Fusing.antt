@@ -15,7 +15,7 @@ use Rattle.bytecode.specs.Check.{complete}
 use Rattle.bytecode.specs.Inner.Timers.{NoTimers}
 use Rattle.bytecode.proofs.Fetching.{one-fetched}
 use Rattle.bytecode.proofs.RoundTrip.{one-next}
-use Rattle.bytecode.proofs.Soundness.{advance-small}
+use Rattle.bytecode.proofs.SoundLimits.{ids-kept}
 use Rattle.arith.specs.Inner.Flags.{flagsOf}
 use Rattle.arith.proofs.Flags.{length-flags}
 use Rattle.checker.specs.Inner.Walk.{knownOf, initialWalk}
@@ -72,7 +72,7 @@ pub moves-ready : {code : List ℕ} {low high prev cur vals : List ℤ} {b : Pro
     → Ready low high prev cur₁ vals₁ k
 moves-ready {b = b} r vals₁ cur₁ k m deeper wider =
     let i = m .instruction in
-    let names : length (flagsOf (k .walk .names) (k .walk .known)) ≡ length (flagsOf (b .walk .names) (b .walk .known)) = advance-small i (knownOf (b .walk)) (knownOf (k .walk)) (omega (arith, length-flags (b .walk .names) (b .walk .known), r .small .few-names)) (m .advanced) .1 in
+    let names : length (flagsOf (k .walk .names) (k .walk .known)) ≡ length (flagsOf (b .walk .names) (b .walk .known)) = ids-kept i (knownOf (b .walk)) (knownOf (k .walk)) (m .advanced) in
     record {
       small = m .small;
       sized = sym (length-flags (k .walk .names) (k .walk .known)) ∙ names ∙ length-flags (b .walk .names) (b .walk .known) ∙ r .sized;
