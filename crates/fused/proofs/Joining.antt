@@ -34,7 +34,7 @@ use Rattle.machine.proofs.Changes.{names-length}
 use Rattle.machine.proofs.Stack.{length-held}
 use Rattle.fused.specs.declared.Progress.{Progress}
 use Rattle.fused.specs.declared.Moved.{Moved}
-use Rattle.fused.specs.Inner.Passes.{registersOf, movedOf, Ready, BreaksAt, Moves, MovesBy}
+use Rattle.fused.specs.Inner.Passes.{registersOf, movedOf, Ready, Strides, BreaksAt, Moves, MovesBy}
 
 -- ---- ranges of which only lows and highs are known
 
@@ -92,15 +92,14 @@ module _ {low high prev cur vals : List ℤ} {b : Progress} (r : Ready low high 
     not-passing = rw go
 
     module _ (i : Instruction) (f : fetchOne code (b .at) ≡ got i next) (inside : next ≤ length code) (e : advance i (knownOf (b .walk)) ≡ some (knownOf k)) (small : Small k) where
+      strides : Strides code (b .walk) (b .at) k next
+      strides = record { instruction = i; fetched = f; inside = inside; advanced = e; small = small }
+
       takes : (t : Registers) → ((ns : Setting) → RangesIn (ns .ranges) low high → ok (machineOf t vals₁ cur₁) ≡ step ns prev i (machineOf doing vals cur))
           → Moves code low high prev b vals cur vals₁ cur₁ (record { walk = k; at = next; picked = t .picked; passing = t .passing })
       takes t a =
           record {
-            instruction = i;
-            fetched = f;
-            inside = inside;
-            advanced = e;
-            small = small;
+            stride = strides;
             acted = λ ns q. sym (acts ns q) ∙ ap (λ (vs : List ℤ). ok (machine (t .passing) (t .picked) vs cur₁)) (aligned k (t .passing) (t .picked) (t .held) vals₁ cur₁ (matched ns q));
             opened = opens k (t .passing) (t .picked) (t .held) vals₁ cur₁ (matched (settingBy low high) here);
           }
@@ -115,7 +114,7 @@ module _ {low high prev cur vals : List ℤ} {b : Progress} (r : Ready low high 
           → MovesBy code low high prev b vals cur vals₁ cur₁ (movedOf k next s)
       done (S.Next t) a = takes t a
       done (S.Refused number) a =
-          record { instruction = i; fetched = f; inside = inside; advanced = e; small = small; acted = λ ns q. sym (a ns q ∙ ap (λ (m : Machine). step ns prev i m) not-passing) }
+          record { stride = strides; acted = λ ns q. sym (a ns q ∙ ap (λ (m : Machine). step ns prev i m) not-passing) }
 
     -- read as this instruction, with this place behind it
     pub arrives : (o : Option Instruction) → fetchOne code (b .at) ≡ decoded o next → next ≤ length code → (a : Advanced) → a ≡ Kept k → advancedKnown a ≡ advanceBy o (knownOf (b .walk)) → SmallAfter a
