@@ -7,7 +7,7 @@ use mathlib.Core.List.{List, [], _∷_, _++_}
 use mathlib.Core.Option.{Option, none, some}
 use lib.Dec.{T, eqb, leb, ltb, lt→ltb, ltb→lt, le→leb, eqb-refl}
 use lib.ListN.{length, getD, set, length-set}
-use borrow.Author.Tests.{eqb-true, lt-ltb}
+use borrow.Author.Tests.{eqb-true, lt-ltb, eq-eqb}
 use Rattle.limits.specs.Limits.{timeLimit}
 use Rattle.arith.specs.Values.{isInt32}
 use Rattle.arith.proofs.Basics.{T-true, true-T, and-T}
@@ -20,10 +20,9 @@ use Rattle.bytecode.specs.Instructions.{Instruction, assign, settle, tim
 use Rattle.bytecode.specs.Translation.{codeE, codeC, codeCase, codeK, codeR, codeT, codeRules, depthE, depthC, ShallowK, ShallowR, Shallow}
 use Rattle.bytecode.specs.Signature.{Sort, truth, times, signature}
 use Rattle.bytecode.specs.Check.{Picks, Known, known, mayBegin, mayFollow, mayEnd, fresh, advance, follows, isTimerRange, suitsIn, suits}
-use Rattle.bytecode.specs.Inner.Places.{lastOf}
 use Rattle.bytecode.proofs.Sides.{Follows, sided-walks}
 use Rattle.bytecode.proofs.Timeless.{Timeless, suits-timeless, timeless-R}
-use Rattle.bytecode.proofs.TimerPlaces.{last-append, bit-timer}
+use Rattle.bytecode.proofs.TimerPlaces.{lastOf, last-append, bit-timer}
 
 -- ---- the code keeps soundness
 
@@ -44,9 +43,6 @@ advances-append (i ∷ is) js c = go (advance i c) (λ c₁. advances-append is 
         → (o continue λ c₁. advances (is ++ js) c₁) ≡ (o continue (λ c₁. advances is c₁) continue λ c₂. advances js c₂)
     go none ih = refl
     go (some c₁) ih = ih c₁
-
-eqb-self : (n : ℕ) → eqb n n ≡ true
-eqb-self n = T-true (eqb n n) (eqb-refl n)
 
 module _ (ids : List Bool) where
   adv-E : (e : Expression) (vs : List Sort) (g : Bool) (o : Option Picks) → UsableE ids e → depthE e + length vs ≤ 40
@@ -92,7 +88,7 @@ module _ (ids : List Bool) where
         → (last : Side) × (advances (codeK v ks) (known [] false (some (picksOn side)) ids) ≡ some (known [] false (some (picksOn last)) ids)) × (mayEnd last ≡ true)
     adv-K side [] f u d = (side, refl, T-true (mayEnd side) f)
     adv-K side (k ∷ ks) f u d =
-        let h = adv-case k (some (picksOn side)) (rw (eqb-self v) (T-true (mayFollow side (k .side)) (f .0))) (u .0) (u .1) (d .0) (d .1) in
+        let h = adv-case k (some (picksOn side)) (rw (eq-eqb v v refl) (T-true (mayFollow side (k .side)) (f .0))) (u .0) (u .1) (d .0) (d .1) in
         let ih = adv-K (k .side) ks (f .1) (u .2) (d .2) in
         (ih .0, rw (advances-append (codeCase v k) (codeK v ks), h) (ih .1), ih .2)
 
@@ -106,7 +102,7 @@ module _ (ids : List Bool) where
       let w = sided-walks (sides (k ∷ ks)) sided in
       let h = adv-case v l f k none (T-true (mayBegin (k .side)) (w .0)) (u .0) (u .1) (d .1 .0) (d .1 .1) in
       let hs = adv-K v l f (k .side) ks (w .1) (u .2) (d .1 .2) in
-      rw (advances-append (codeCase v k ++ codeK v ks) (settle v ∷ []), advances-append (codeCase v k) (codeK v ks), h, hs .1, lt-ltb v (length ids) l, f, eqb-self v, hs .2)
+      rw (advances-append (codeCase v k ++ codeK v ks) (settle v ∷ []), advances-append (codeCase v k) (codeK v ks), h, hs .1, lt-ltb v (length ids) l, f, eq-eqb v v refl, hs .2)
 
 adv-T : (v i n : ℕ) (ts : List Timer) → Numbered i n ts → (ids : List Bool) → length ids ≡ n → EachTimer (Unknown v ids) ts
     → advances (codeT v ts) (known [] false none ids) ≡ some (known [] false none (timersKnown v ts ids))

@@ -20,13 +20,13 @@ use Rattle.bytecode.specs.Translation.{RangesFit}
 use Rattle.bytecode.specs.Signature.{Sort, number, truth, Role, pushes, computes, tests, opens, picks, lets, settles, times, signature}
 use Rattle.bytecode.specs.Check.{Picks, Known, known, one, empty, unset, closed, fresh, opened, taking, admits, advance, suits, complete, item, checkRange, checkRanges, checkCounts, Header, checkHeader, ends, checkCode, atStart, checkBody, checkOf}
 use Rattle.bytecode.specs.Parts.{headerOf, codeOf, counted, countFrom, instructionsIn}
-use Rattle.bytecode.specs.Sound.{RangesAt, SpellsCode}
+use Rattle.bytecode.specs.Sound.{RangesAt, SpellsCode, Sound}
 use Rattle.bytecode.specs.Allowed.{leftIn, leftBy, leftByAll, AllowedIn, Allowed, Finished}
-use Rattle.bytecode.specs.Inner.Places.{lastOf, SoundByPlace}
 use Rattle.bytecode.proofs.RoundTrip.{fetch-next}
+use Rattle.bytecode.proofs.TimerPlaces.{lastOf}
 use Rattle.bytecode.proofs.Advancing.{Suited}
 use Rattle.bytecode.proofs.Soundness.{some-inj, none≢some, guard-some}
-use Rattle.bytecode.proofs.Walk.{check-sound, Stepped, check-stepped, check-ended}
+use Rattle.bytecode.proofs.Walk.{Stepped, check-stepped, check-ended}
 
 -- ---- one instruction
 
@@ -152,20 +152,7 @@ abbrev pub Places : List Instruction → Known → Type 0
 Places [] c = Unit {0}
 Places (i ∷ is) c = Allowed i c × Places is (leftBy i c)
 
-places-at : (is : List Instruction) (c : Known) → Places is c → (before : List Instruction) (i : Instruction) (after : List Instruction) → is ≡ before ++ i ∷ after → Allowed i (leftByAll before c)
-places-at [] c p [] i after e = let z : _≡_ {A = ℕ} 0 1 = cc in let f : ⊥ = omega arith in absurd f
-places-at [] c p (b ∷ before) i after e = let z : _≡_ {A = ℕ} 0 1 = cc in let f : ⊥ = omega arith in absurd f
-places-at (j ∷ is) c p [] i after e = let q : j ≡ i = cc in rw q at (p .0)
-places-at (j ∷ is) c p (b ∷ before) i after e =
-    let q : j ≡ b = cc in
-    let r : is ≡ before ++ i ∷ after = cc in
-    rw q at (places-at is (leftBy j c) (p .1) before i after r)
-
-pub at-places : (is : List Instruction) (c : Known) → ((before : List Instruction) (i : Instruction) (after : List Instruction) → is ≡ before ++ i ∷ after → Allowed i (leftByAll before c)) → Places is c
-at-places [] c h = tt
-at-places (j ∷ is) c h = (h [] j is refl, at-places is (leftBy j c) (λ before i after e. h (j ∷ before) i after (ap {B = List Instruction} (λ l. j ∷ l) e)))
-
-suited-at : (ns : List Range) (last : Option Instruction) (is : List Instruction) → Suited ns last is → (before : List Instruction) (i : Instruction) (after : List Instruction) → is ≡ before ++ i ∷ after → T (suits ns (lastOf last before) i)
+pub suited-at : (ns : List Range) (last : Option Instruction) (is : List Instruction) → Suited ns last is → (before : List Instruction) (i : Instruction) (after : List Instruction) → is ≡ before ++ i ∷ after → T (suits ns (lastOf last before) i)
 suited-at ns last [] p [] i after e = let z : _≡_ {A = ℕ} 0 1 = cc in let f : ⊥ = omega arith in absurd f
 suited-at ns last [] p (b ∷ before) i after e = let z : _≡_ {A = ℕ} 0 1 = cc in let f : ⊥ = omega arith in absurd f
 suited-at ns last (j ∷ is) p [] i after e = let q : j ≡ i = cc in subst (λ (x : Instruction). T (suits ns last x)) q (p .0)
@@ -174,19 +161,19 @@ suited-at ns last (j ∷ is) p (b ∷ before) i after e =
     let r : is ≡ before ++ i ∷ after = cc in
     subst (λ (x : Instruction). T (suits ns (lastOf (some x) before) i)) q (suited-at ns (some j) is (p .1) before i after r)
 
-at-suited : (ns : List Range) (last : Option Instruction) (is : List Instruction) → ((before : List Instruction) (i : Instruction) (after : List Instruction) → is ≡ before ++ i ∷ after → T (suits ns (lastOf last before) i)) → Suited ns last is
+pub at-suited : (ns : List Range) (last : Option Instruction) (is : List Instruction) → ((before : List Instruction) (i : Instruction) (after : List Instruction) → is ≡ before ++ i ∷ after → T (suits ns (lastOf last before) i)) → Suited ns last is
 at-suited ns last [] h = tt
 at-suited ns last (j ∷ is) h = (h [] j is refl, at-suited ns (some j) is (λ before i after e. h (j ∷ before) i after (ap {B = List Instruction} (λ l. j ∷ l) e)))
 
 -- ---- the code
 
 -- what the walk found
-record Walked (ns : List Range) (code : List ℕ) (at : ℕ) (last : Option Instruction) (c : Known) : Type 0 where
-  instructions : List Instruction
-  spells : SpellsCode code at instructions
-  places : Places instructions c
-  suited : Suited ns last instructions
-  ends : Finished (leftByAll instructions c)
+pub record Walked (ns : List Range) (code : List ℕ) (at : ℕ) (last : Option Instruction) (c : Known) : Type 0 where
+  pub instructions : List Instruction
+  pub spells : SpellsCode code at instructions
+  pub places : Places instructions c
+  pub suited : Suited ns last instructions
+  pub ends : Finished (leftByAll instructions c)
 
 walked-step : (ns : List Range) (base : ℕ) (code : List ℕ) (f at : ℕ) (last : Option Instruction) (c : Known) (x : Stepped ns base code f at last c) → Walked ns code (x .next) (some (x .instruction)) (x .after) → Walked ns code at last c
 walked-step ns base code f at last c x w =
@@ -239,52 +226,27 @@ counts-pass bytes k m at₁ at₂ e₁ e₂ few =
     item-passes (numberAt bytes 0) 0 (λ k. leb k 64) _ k at₁ e₁ (le→leb k 64 (omega arith))
     ∙ item-passes (numberAt bytes at₁) at₁ (λ m. leb (k + m) 64) _ m at₂ e₂ (le→leb (k + m) 64 few)
 
-header-passes : (bytes : List ℕ) (x : SoundByPlace bytes) → checkHeader bytes ≡ accepted (x .header)
+header-passes : (bytes : List ℕ) (x : Sound bytes) → checkHeader bytes ≡ accepted (x .header)
 unfolding checkHeader
 header-passes bytes x =
     rw (counts-pass bytes (x .header .inputs) (x .variables) (x .at₁) (x .at₂) (x .inputs-read) (x .variables-read) (x .few))
     (rw (← (x .size)) (ranges-pass bytes (x .at₂) (x .header .ranges) (x .header .place) (λ ns next. accepted (record { inputs = x .header .inputs; ranges = ns; place = next })) (x .ranges-read) (x .fit)))
 
-body-passes : (bytes : List ℕ) (x : SoundByPlace bytes) → checkBody bytes (x .header) ≡ accepted tt
+body-passes : (bytes : List ℕ) (h : Header) → Walked (h .ranges) (drop (h .place) bytes) 0 none (atStart h) → checkBody bytes h ≡ accepted tt
 unfolding checkBody
-body-passes bytes x =
-    walks (x .header .ranges) (x .header .place) (drop (x .header .place) bytes) (length (drop (x .header .place) bytes)) 0 none (x .code) (atStart (x .header)) (omega arith) (x .spells)
-    (at-places (x .code) (atStart (x .header)) (x .places)) (at-suited (x .header .ranges) none (x .code) (x .suited)) (x .ends)
+body-passes bytes h w =
+    walks (h .ranges) (h .place) (drop (h .place) bytes) (length (drop (h .place) bytes)) 0 none (w .instructions) (atStart h) (omega arith) (w .spells) (w .places) (w .suited) (w .ends)
 
--- a sound image is answered sound
-pub sound-accepted : (bytes : List ℕ) → SoundByPlace bytes → checkOf bytes ≡ accepted tt
+-- a sound image is answered sound, if the walk finds its code so
+pub sound-accepted : (bytes : List ℕ) (x : Sound bytes) → Walked (x .header .ranges) (drop (x .header .place) bytes) 0 none (atStart (x .header)) → checkOf bytes ≡ accepted tt
 unfolding checkOf
-sound-accepted bytes x =
+sound-accepted bytes x w =
     let l : leb (length bytes) 65536 ≡ true = T-true (leb (length bytes) 65536) (le→leb (length bytes) 65536 (x .short)) in
-    rw (l, header-passes bytes x) (body-passes bytes x)
+    rw (l, header-passes bytes x) (body-passes bytes (x .header) w)
 
-body-walked : (bytes : List ℕ) (h : Header) → checkBody bytes h ≡ accepted tt → Walked (h .ranges) (drop (h .place) bytes) 0 none (atStart h)
+pub body-walked : (bytes : List ℕ) (h : Header) → checkBody bytes h ≡ accepted tt → Walked (h .ranges) (drop (h .place) bytes) 0 none (atStart h)
 unfolding checkBody
 body-walked bytes h e = walked (h .ranges) (h .place) (drop (h .place) bytes) (length (drop (h .place) bytes)) 0 none (atStart h) (omega arith) e
-
--- an image that is answered sound is sound
-pub accepted-sound : (bytes : List ℕ) → checkOf bytes ≡ accepted tt → SoundByPlace bytes
-accepted-sound bytes e =
-    let y = check-sound bytes e in
-    let w = body-walked bytes (y .header) (y .body) in
-    record {
-      short = y .short;
-      header = y .header;
-      variables = y .fits .variables;
-      at₁ = y .fits .at₁;
-      at₂ = y .fits .at₂;
-      inputs-read = y .fits .inputs-read;
-      variables-read = y .fits .variables-read;
-      ranges-read = y .fits .stands;
-      size = y .fits .size;
-      few = y .fits .total;
-      fit = y .fits .fit;
-      code = w .instructions;
-      spells = w .spells;
-      places = places-at (w .instructions) (atStart (y .header)) (w .places);
-      suited = suited-at (y .header .ranges) none (w .instructions) (w .suited);
-      ends = w .ends;
-    }
 
 -- ---- the count of instructions
 
@@ -301,16 +263,16 @@ count-spelled code (suc f) at (i ∷ is) l s =
     let h : countFrom code f (s .0) ≡ length is = count-spelled code f (s .0) is (omega (arith, n .1)) (s .2) in
     rw (s .1) (omega arith)
 
-header-of-sound : (bytes : List ℕ) (x : SoundByPlace bytes) → headerOf bytes ≡ x .header
+header-of-sound : (bytes : List ℕ) (x : Sound bytes) → headerOf bytes ≡ x .header
 unfolding headerOf
 header-of-sound bytes x = rw (header-passes bytes x)
 
-code-of-sound : (bytes : List ℕ) (x : SoundByPlace bytes) → codeOf bytes ≡ drop (x .header .place) bytes
+code-of-sound : (bytes : List ℕ) (x : Sound bytes) → codeOf bytes ≡ drop (x .header .place) bytes
 unfolding codeOf
 code-of-sound bytes x = rw (header-of-sound bytes x)
 
 -- the count taken from the bytes is the number of instructions in the code
-pub instructions-counted : (bytes : List ℕ) (x : SoundByPlace bytes) → instructionsIn bytes ≡ length (x .code)
+pub instructions-counted : (bytes : List ℕ) (x : Sound bytes) → instructionsIn bytes ≡ length (x .code)
 unfolding instructionsIn
 instructions-counted bytes x =
     rw (code-of-sound bytes x) (count-spelled (drop (x .header .place) bytes) (length (drop (x .header .place) bytes)) 0 (x .code) (omega arith) (x .spells))

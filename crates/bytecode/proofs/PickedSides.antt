@@ -9,17 +9,16 @@ use lib.ListN.{length, getD, set}
 use lib.Seq.{getD-set-same}
 use borrow.Author.Tests.{eqb-true, eqb-false}
 use Rattle.arith.proofs.Basics.{T-not-false, and-right}
-use Rattle.semantics.specs.Program.{Side, Sided}
+use Rattle.semantics.specs.Program.{Range, Side, Sided}
 use Rattle.bytecode.specs.Instructions.{Instruction, settle}
 use Rattle.bytecode.specs.Signature.{Sort, Role, pushes, computes, tests, opens, picks, lets, settles, times, signature}
-use Rattle.bytecode.specs.Check.{Picks, Known, known, mayFollow, mayEnd, unset, fresh, opened, atStart}
+use Rattle.bytecode.specs.Check.{Picks, Known, known, mayFollow, mayEnd, unset, fresh, opened}
 use Rattle.bytecode.specs.Allowed.{picksBy, leftBy, leftByAll, AllowedIn, Allowed}
-use Rattle.bytecode.specs.Inner.Places.{SoundByPlace}
 use Rattle.bytecode.specs.Sound.{idsIn, sideIn, sidesOf}
 use Rattle.bytecode.proofs.Soundness.{some-inj, none≢some, unset-inside}
 use Rattle.bytecode.proofs.Sides.{Shape, shape-first, shape-next, shape-sided}
-use Rattle.bytecode.proofs.Exactly.{Places}
-use Rattle.bytecode.proofs.Paired.{idOf, fresh-id, opened-id, opened-some, ahead}
+use Rattle.bytecode.proofs.Exactly.{Places, Walked}
+use Rattle.bytecode.proofs.Paired.{idOf, fresh-id, opened-id, opened-some, ahead, places-from}
 
 -- the sides l of the picks of v so far: the last is the one known; none were picked of a variable that is neither settled nor let, and whose
 -- picks await no settle
@@ -119,9 +118,9 @@ settle-sided v (known vs g o ids) l a k = go o (a .in-role .3) k
     go none h k = absurd h
     go (some p) h k = shape-sided l (p .side) (k .picked p refl (opened-id p v h)) (and-right (eqb (p .id) v) (mayEnd (p .side)) h)
 
-module _ (bytes : List ℕ) (x : SoundByPlace bytes) where
+module _ {ns : List Range} {code : List ℕ} {at : ℕ} {last : Option Instruction} {ids : List Bool} (w : Walked ns code at last (known [] false none ids)) where
   -- the picks before one settle are all code 20, or some 24 and then some 25
-  pub settle-has-sides : (before : List Instruction) (v : ℕ) (after : List Instruction) → x .code ≡ before ++ settle v ∷ after → Sided (sidesOf v before)
+  pub settle-has-sides : (before : List Instruction) (v : ℕ) (after : List Instruction) → w .instructions ≡ before ++ settle v ∷ after → Sided (sidesOf v before)
   settle-has-sides before v after e =
-      settle-sided v (leftByAll before (atStart (x .header))) (sidesOf v before) (x .places before (settle v) after e)
-      (sides-after v before (atStart (x .header)) [] (ahead bytes x before (settle v) after e) (sides-first v _))
+      settle-sided v (leftByAll before (known [] false none ids)) (sidesOf v before) (places-from w before (settle v) after e .0)
+      (sides-after v before (known [] false none ids) [] (ahead w before (settle v) after e) (sides-first v ids))

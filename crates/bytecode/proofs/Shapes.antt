@@ -73,11 +73,8 @@ timers-other v i (x ∷ xs) ls h = go (eqb (x .watched) v) (eqb-true (x .watched
 
 timers-own : (v i end : ℕ) (ts : List Timer) (ls : List ℕ) → Numbered i end ts → end ≤ length ls → EachTimer (λ x. x .watched ≡ v → getD (limitsBy (codeT v ts) ls) (x .id) 0 ≡ x .limit) ts
 timers-own v i end [] ls h l = tt
-timers-own v i end (x ∷ xs) ls h l = go (eqb (x .watched) v) (λ e. rw e (T-refl v)) (λ ls₁ l₁. timers-own v (suc i) end xs ls₁ (h .1) l₁)
+timers-own v i end (x ∷ xs) ls h l = go (eqb (x .watched) v) (eq-eqb (x .watched) v) (λ ls₁ l₁. timers-own v (suc i) end xs ls₁ (h .1) l₁)
   where
-    T-refl : (n : ℕ) → eqb n n ≡ true
-    T-refl n = eq-eqb n n refl
-
     go : (b : Bool) → (x .watched ≡ v → b ≡ true)
         → ((ls₁ : List ℕ) → end ≤ length ls₁ → EachTimer (λ y. y .watched ≡ v → getD (limitsBy (codeT v xs) ls₁) (y .id) 0 ≡ y .limit) xs)
         → EachTimer (λ y. y .watched ≡ v → getD (limitsBy (cond b (Instruction.timer (x .id) v (x .limit) ∷ codeT v xs) (codeT v xs)) ls) (y .id) 0 ≡ y .limit) (x ∷ xs)

@@ -1,36 +1,34 @@
 -- The image of a translatable program is sound. Assumes nothing.
 use Prim.Native.Nat.{ℕ, zero, suc, _+_, _-_, _≤_, _<_}
 use native.Mathlib.Omega.{arith}
-use mathlib.Core.Path.{_≡_, refl, sym, ap, _∙_}
+use mathlib.Core.Path.{_≡_, refl, ap, _∙_}
 use mathlib.Core.Bool.{Bool, true, false, not, _&&_}
 use mathlib.Core.List.{List, [], _∷_, _++_, append-assoc}
 use mathlib.Core.Option.{Option, none, some}
 use lib.Dec.{T, leb, ltb, ltb→lt, le→leb}
-use lib.ListN.{length, getD, set, drop, length-append, length-drop, length-set}
+use lib.ListN.{length, getD, drop, length-append, length-drop}
 use lib.Seq.{drop-append-seam}
 use lib.Signed.{leZ}
 use borrow.Author.Tests.{lt-ltb, le-ltb}
 use Rattle.limits.specs.Answer.{Answer, accepted}
 use Rattle.arith.specs.Values.{isInt32}
 use Rattle.semantics.specs.Program.{Program, Range, rangesOf, knownFirst, RangeFits, firstTimer, EachTimer, TimerFits}
-use Rattle.arith.proofs.Basics.{T-true, and-left, and-right}
+use Rattle.arith.proofs.Basics.{T-true, and-left}
 use Rattle.semantics.specs.Shape.{shapeOf, settingOf}
 use Rattle.semantics.proofs.Timers.{each-map, each-both, numbered-from, ownerOf, placed}
 use Rattle.semantics.proofs.Reference.{length-known, first-waiting}
 use Rattle.leb128.specs.Numbers.{number, zigzag}
-use Rattle.bytecode.specs.Instructions.{Instruction, constant, current, previous, operation, negate, comparison, negated, both, either, gate, pick, assign, settle, timer, encode, encodeAll}
+use Rattle.bytecode.specs.Instructions.{Instruction, encode, encodeAll}
 use Rattle.bytecode.specs.Translation.{codeRules, encodeRanges, encodeHeader, imageOf, RangesFit, Translatable}
-use Rattle.bytecode.specs.Signature.{Sort, truth, signature}
-use Rattle.bytecode.specs.Check.{Picks, Known, known, guard, one, empty, unset, closed, fresh, opened, advance, suits, complete, checkRange, checkRanges, Header, checkCounts, checkHeader, checkCode, checkBody, checkOf}
+use Rattle.bytecode.specs.Check.{Known, known, guard, unset, advance, suits, complete, checkRange, checkRanges, Header, checkCounts, checkHeader, checkCode, checkBody, checkOf}
 use Rattle.bytecode.specs.Parts.{headerOf, codeOf}
 use Rattle.leb128.proofs.RoundTrip.{drop-behind, number-at, signed-at}
-use Rattle.bytecode.proofs.Timeless.{TimelessIn}
 use Rattle.bytecode.proofs.SmallOperands.{SmallTimer, small-rules}
 pub use Rattle.bytecode.proofs.SmallOperands.{known-inside}
 use Rattle.bytecode.proofs.Advancing.{_continue_, advances, adv-rules, Suited, suited-rules}
-use Rattle.bytecode.proofs.RoundTrip.{Small, AllSmall, fetch-encoded, length-encode, encoded-inside}
+use Rattle.bytecode.proofs.RoundTrip.{AllSmall, fetch-encoded, length-encode, encoded-inside}
 
--- ---- operands are small
+-- ---- what was answered
 
 pub some-inj : {A : Type 0} {a b : A} → some a ≡ some b → a ≡ b
 some-inj e = cc
@@ -42,14 +40,6 @@ pub guard-some : (b : Bool) (c d : Known) → guard b c ≡ some d → T b × (c
 guard-some true c d e = (tt, cc)
 guard-some false c d e = none≢some d e
 
-pub one-some : (x : Sort) (vs : List Sort) (k : List Sort → Option Known) (d : Known) → one x vs k ≡ some d → (vs₁ : List Sort) × (k vs₁ ≡ some d)
-one-some Sort.number [] k d e = none≢some d e
-one-some Sort.number (Sort.number ∷ vs) k d e = (vs, e)
-one-some Sort.number (Sort.truth ∷ vs) k d e = none≢some d e
-one-some Sort.truth [] k d e = none≢some d e
-one-some Sort.truth (Sort.number ∷ vs) k d e = none≢some d e
-one-some Sort.truth (Sort.truth ∷ vs) k d e = (vs, e)
-
 pub continue-some : (o : Option Known) (f : Known → Option Known) (c : Known) → (o continue f) ≡ some c → (c₁ : Known) × (o ≡ some c₁) × (f c₁ ≡ some c)
 continue-some none f c e = none≢some c e
 continue-some (some c₁) f c e = (c₁, refl, e)
@@ -59,72 +49,6 @@ idsOf (known vs g o ids) = ids
 
 pub unset-inside : (ids : List Bool) (v : ℕ) → T (unset ids v) → v < length ids
 unset-inside ids v t = ltb→lt v (length ids) (and-left (ltb v (length ids)) (not (getD ids v false)) t)
-
-pub third : (a b c e : Bool) → T (a && b && c && e) → T c
-third a b c e h = and-right (a && b) c (and-left (a && b && c) e h)
-
-record Advanced (i : Instruction) (ids : List Bool) (d : Known) : Type 0 where
-  small : TimelessIn (signature i .role) → Small i
-  same : length (idsOf d) ≡ length ids
-
-module _ (ids : List Bool) (few : length ids ≤ 64) where
-  same-ids : (i : Instruction) (vs : List Sort) (g : Bool) (o : Option Picks) (d : Known) → Small i → known vs g o ids ≡ d → Advanced i ids d
-  same-ids i vs g o d s e = record { small = λ h. s; same = ap (λ c. length (idsOf c)) (sym e) }
-
-  set-ids : (i : Instruction) (vs : List Sort) (g : Bool) (o : Option Picks) (v : ℕ) (d : Known) → Small i → known vs g o (set ids v true) ≡ d → Advanced i ids d
-  set-ids i vs g o v d s e = record { small = λ h. s; same = ap (λ c. length (idsOf c)) (sym e) ∙ length-set ids v true }
-
-  advanced : (i : Instruction) (vs : List Sort) (g : Bool) (o : Option Picks) (d : Known) → advance i (known vs g o ids) ≡ some d → Advanced i ids d
-  advanced (constant z) vs g o d e =
-      let h = guard-some (isInt32 z && ltb (length vs) 40) _ d e in
-      same-ids (constant z) (Sort.number ∷ vs) g o d (and-left (isInt32 z) _ (h .0)) (h .1)
-  advanced (current i) vs g o d e =
-      let h = guard-some (getD ids i false && ltb (length vs) 40) _ d e in
-      let l : i < length ids = known-inside ids i (T-true _ (and-left (getD ids i false) _ (h .0))) in
-      same-ids (current i) (Sort.number ∷ vs) g o d (omega arith) (h .1)
-  advanced (previous i) vs g o d e =
-      let h = guard-some (ltb i (length ids) && ltb (length vs) 40) _ d e in
-      let l : i < length ids = ltb→lt i (length ids) (and-left (ltb i (length ids)) _ (h .0)) in
-      same-ids (previous i) (Sort.number ∷ vs) g o d (omega arith) (h .1)
-  advanced (operation x) vs g o d e =
-      let a = one-some Sort.number vs _ d e in
-      let b = one-some Sort.number (a .0) _ d (a .1) in
-      same-ids (operation x) (Sort.number ∷ b .0) g o d tt (some-inj (b .1))
-  advanced negate vs g o d e = let a = one-some Sort.number vs _ d e in same-ids negate (Sort.number ∷ a .0) g o d tt (some-inj (a .1))
-  advanced (comparison x) vs g o d e =
-      let a = one-some Sort.number vs _ d e in
-      let b = one-some Sort.number (a .0) _ d (a .1) in
-      same-ids (comparison x) (truth ∷ b .0) g o d tt (guard-some (not g) _ d (b .1) .1)
-  advanced negated vs g o d e = let a = one-some Sort.truth vs _ d e in same-ids negated (truth ∷ a .0) g o d tt (guard-some (not g) _ d (a .1) .1)
-  advanced both vs g o d e =
-      let a = one-some Sort.truth vs _ d e in
-      let b = one-some Sort.truth (a .0) _ d (a .1) in
-      same-ids both (truth ∷ b .0) g o d tt (guard-some (not g) _ d (b .1) .1)
-  advanced either vs g o d e =
-      let a = one-some Sort.truth vs _ d e in
-      let b = one-some Sort.truth (a .0) _ d (a .1) in
-      same-ids either (truth ∷ b .0) g o d tt (guard-some (not g) _ d (b .1) .1)
-  advanced gate vs g o d e = let a = one-some Sort.truth vs _ d e in same-ids gate [] true o d tt (guard-some (not g && empty (a .0)) _ d (a .1) .1)
-  advanced (pick side v) vs g o d e =
-      let a = one-some Sort.number vs _ d e in
-      let h = guard-some (g && empty (a .0) && unset ids v && fresh o side v) _ d (a .1) in
-      let l : v < length ids = unset-inside ids v (third g (empty (a .0)) (unset ids v) (fresh o side v) (h .0)) in
-      same-ids (pick side v) [] false (some (record { side = side; id = v })) d (omega arith) (h .1)
-  advanced (assign v) vs g o d e =
-      let a = one-some Sort.number vs _ d e in
-      let h = guard-some (not g && empty (a .0) && unset ids v && closed o) _ d (a .1) in
-      let l : v < length ids = unset-inside ids v (third (not g) (empty (a .0)) (unset ids v) (closed o) (h .0)) in
-      set-ids (assign v) [] false none v d (omega arith) (h .1)
-  advanced (settle v) vs g o d e =
-      let h = guard-some (not g && empty vs && unset ids v && opened o v) _ d e in
-      let l : v < length ids = unset-inside ids v (third (not g) (empty vs) (unset ids v) (opened o v) (h .0)) in
-      set-ids (settle v) [] false none v d (omega arith) (h .1)
-  advanced (timer t w n) vs g o d e =
-      let h = guard-some (not g && empty vs && unset ids t && closed o) _ d e in
-      record { small = λ f. absurd f; same = ap (λ c. length (idsOf c)) (sym (h .1)) ∙ length-set ids t true }
-
-pub advance-small : (i : Instruction) (c d : Known) → length (idsOf c) ≤ 64 → advance i c ≡ some d → (TimelessIn (signature i .role) → Small i) × (length (idsOf d) ≡ length (idsOf c))
-advance-small i (known vs g o ids) d few e = let a = advanced ids few i vs g o d e in (a .small, a .same)
 
 -- ---- the walk
 

@@ -15,9 +15,13 @@ use Rattle.bytecode.specs.Instructions.{Instruction}
 use Rattle.bytecode.specs.Signature.{Role, pushes, computes, tests, opens, picks, lets, settles, times, signature}
 use Rattle.bytecode.specs.Check.{followsIn, follows, isTimerRange, suitsIn}
 use Rattle.bytecode.specs.Sound.{RuleIn, TimerStands}
-use Rattle.bytecode.specs.Inner.Places.{lastOf}
 
 -- ---- the instruction before
+
+-- the last of instructions
+abbrev pub lastOf : Option Instruction → List Instruction → Option Instruction
+lastOf last [] = last
+lastOf last (i ∷ is) = lastOf (some i) is
 
 pub last-append : (last : Option Instruction) (is : List Instruction) (i : Instruction) → lastOf last (is ++ i ∷ []) ≡ some i
 last-append last [] i = refl

@@ -17,7 +17,7 @@ use Rattle.bytecode.specs.Instructions.{constant, operation, negate, comparison
 use Rattle.bytecode.specs.Signature.{Sort, number, truth}
 use Rattle.bytecode.specs.Check.{Picks, Known, known, guard, one, empty, unset, closed, mayBegin, mayFollow, fresh, opened, advance}
 use Rattle.bytecode.proofs.Heading.{unzigzag-int32}
-use Rattle.bytecode.proofs.Paired.{gateOf}
+use Rattle.bytecode.proofs.LastOpen.{gateOf}
 use Rattle.checker.specs.declared.advance.Walk.{Walk}
 use Rattle.checker.specs.Inner.Walk.{sortOf, sortsOf, openOf, sideOf, picksOf, knownOf, pushed, kept, joined, only, outside}
 use Rattle.checker.proofs.Bits.{sorts-none, sorts-one, sorts-cons, sorts-two}

@@ -22,7 +22,7 @@ use Rattle.bytecode.proofs.RoundTrip.{one-next}
 use Rattle.bytecode.proofs.Soundness.{none≢some, known-inside}
 use Rattle.checker.specs.declared.advance.Walk.{Walk}
 use Rattle.checker.specs.Inner.Walk.{openOf, knownOf, advanceBy, pushed, joined, outside, Small}
-use Rattle.checker.specs.Inner.Stretches.{withNumber, withTruth, KeepsTo, StepsTo, lastStep, firstStep, LeadsTo}
+use Rattle.checker.specs.Inner.Stretches.{withNumber, withSort, KeepsTo, StepsTo, lastStep, firstStep, LeadsTo}
 use Rattle.checker.proofs.Bits.{length-sorts, sorts-cons, sorts-push, sorts-number, number-low}
 use Rattle.checker.proofs.Steps.{operation-is, comparison-is, constant-is}
 use Rattle.checker.proofs.Walking.{WalksTo, walks-on, walks-step}
@@ -40,10 +40,10 @@ module _ (w : Walk) where
   pub number-small : Small w → w .held < 40 → Small (withNumber w)
   number-small s h = record { few-held = omega arith; sorts-low = number-low (w .held) (w .sorts) (s .sorts-low); few-names = s .few-names; known-low = s .known-low }
 
-  pub truth-small : Small w → w .held < 40 → Small (withTruth w)
+  pub truth-small : Small w → w .held < 40 → Small (withSort w 1)
   truth-small s h = record { few-held = omega arith; sorts-low = truth-low (w .held) (w .sorts) (s .sorts-low); few-names = s .few-names; known-low = s .known-low }
 
-  pub two-tested : w .gate ≡ 0 → outside (openOf (w .gate)) (joined number truth (knownOf (withNumber (withNumber w)))) ≡ some (knownOf (withTruth w))
+  pub two-tested : w .gate ≡ 0 → outside (openOf (w .gate)) (joined number truth (knownOf (withNumber (withNumber w)))) ≡ some (knownOf (withSort w 1))
   unfolding joined
   two-tested e = rw (e, sorts-number (w .held + 1) (w .sorts * 2), sorts-number (w .held) (w .sorts), sorts-push (w .held) (w .sorts) 1 (omega arith))
 
@@ -112,20 +112,20 @@ module _ (code : List ℕ) (at : ℕ) (w : Walk) (small : Small w) where
     op = getD code (at + 4) 0
 
     value-leads : (i : Instruction) → instructionOf (getD code at 0) (getD code (at + 1) 0) ≡ some i → hasOperand (getD code at 0) ≡ true → getD code (at + 1) 0 < 128
-        → advance i (knownOf w) ≡ pushed (knownOf w) → LeadsTo code at w (at + 5) (withTruth w)
+        → advance i (knownOf w) ≡ pushed (knownOf w) → LeadsTo code at w (at + 5) (withSort w 1)
     value-leads i is has one-byte admitted =
         let p : at + 2 + 1 ≡ at + 3 = omega arith in
         let short₂ : getD code (at + 2 + 1) 0 < 128 = rw p short in
         record {
           steps =
-              firstStep at (knownOf w) (at + 2) (knownOf (withNumber w)) (at + 5) (knownOf (withTruth w)) record {
+              firstStep at (knownOf w) (at + 2) (knownOf (withNumber w)) (at + 5) (knownOf (withSort w 1)) record {
                 instruction = i;
                 fetched = with-byte code at i (at + 2) refl (omega arith) has one-byte is;
                 advanced = admitted ∙ pushed-is w (omega arith);
               }
-              (firstStep (at + 2) (knownOf (withNumber w)) (at + 4) (knownOf (withNumber (withNumber w))) (at + 5) (knownOf (withTruth w))
+              (firstStep (at + 2) (knownOf (withNumber w)) (at + 4) (knownOf (withNumber (withNumber w))) (at + 5) (knownOf (withSort w 1))
               (constant-keeps code (at + 2) (withNumber w) (at + 4) (omega arith) (omega arith) one short₂ room)
-              (lastStep (at + 4) (knownOf (withNumber (withNumber w))) (at + 5) (knownOf (withTruth w)) record {
+              (lastStep (at + 4) (knownOf (withNumber (withNumber w))) (at + 5) (knownOf (withSort w 1)) record {
                 instruction = comparison (comparisonOf op);
                 fetched = by-itself code (at + 4) (comparison (comparisonOf op)) (at + 5) (omega arith) l (no-operand op (omega arith) (omega arith)) (comparison-of op 0 least most);
                 advanced = comparison-is (comparisonOf op) (knownOf (withNumber (withNumber w))) ∙ two-tested w shut;
@@ -134,7 +134,7 @@ module _ (code : List ℕ) (at : ℕ) (w : Walk) (small : Small w) where
           small = truth-small w small (omega arith);
         }
 
-    pub previous-leads : getD code at 0 ≡ 3 → getD code (at + 1) 0 < w .names → LeadsTo code at w (at + 5) (withTruth w)
+    pub previous-leads : getD code at 0 ≡ 3 → getD code (at + 1) 0 < w .names → LeadsTo code at w (at + 5) (withSort w 1)
     unfolding instructionOf hasOperand
     previous-leads is id =
         let n = getD code (at + 1) 0 in
@@ -142,7 +142,7 @@ module _ (code : List ℕ) (at : ℕ) (w : Walk) (small : Small w) where
         let has : hasOperand (getD code at 0) ≡ true = rw is in
         value-leads (previous n) e has (omega (arith, small .few-names)) (previous-pushed w n id)
 
-    pub current-leads : getD code at 0 ≡ 2 → getD (flagsOf (w .names) (w .known)) (getD code (at + 1) 0) false ≡ true → LeadsTo code at w (at + 5) (withTruth w)
+    pub current-leads : getD code at 0 ≡ 2 → getD (flagsOf (w .names) (w .known)) (getD code (at + 1) 0) false ≡ true → LeadsTo code at w (at + 5) (withSort w 1)
     unfolding instructionOf hasOperand
     current-leads is known =
         let n = getD code (at + 1) 0 in

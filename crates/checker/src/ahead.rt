@@ -11,7 +11,7 @@ ghost use lib.ListN.{length};
 ghost use Rattle.bytecode.specs.Instructions.{fetchOne};
 ghost use Rattle.bytecode.specs.Results.{singleRead, SingleWithin};
 ghost use Rattle.checker.specs.Inner.Walk.{Small};
-ghost use Rattle.checker.specs.Inner.Stretches.{withTruth, LeadsTo, TakenBy};
+ghost use Rattle.checker.specs.Inner.Stretches.{withSort, LeadsTo, TakenBy};
 
 // The walk and the place behind instructions; or the first of them breaks soundness or is a timer.
 pub enum Stretch {
@@ -28,7 +28,7 @@ fn wide(x: u8) -> u64
 // A current or previous value, a constant and a comparison, with operands of one byte: a yes-no more is held.
 fn comparison_ahead(code: &[u8], at: usize, w: Walk) -> bool
     requires { ⌜ (Small w) × (at < length (now code)) ⌝ }
-    ensures { λ r. ⌜ (r ≡ true → LeadsTo (now (code .entry)) at w (at + 5) (withTruth w)) ⌝ }
+    ensures { λ r. ⌜ (r ≡ true → LeadsTo (now (code .entry)) at w (at + 5) (withSort w 1)) ⌝ }
 {
     let byte = code[at];
     if byte < 2 {

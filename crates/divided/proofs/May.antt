@@ -9,6 +9,7 @@ use lib.IntN.{ℤ}
 use lib.ListN.{length}
 use borrow.Author.Tests.{eqb-true}
 use Rattle.before.specs.Before.{beforeCode, mayScan, testedBefore}
+use Rattle.arith.proofs.Basics.{and-both}
 use Rattle.limits.specs.Limits.{imageLimit, nameLimit}
 use Rattle.limits.specs.Answer.{Answer, accepted, refused}
 use Rattle.semantics.specs.Formula.{State}
@@ -58,15 +59,10 @@ module _ (image : List ℕ) (s : State) (row : List ℤ) where
       h : Shape
       h = shapeIn image
 
-      lengths : (a b : Bool) → (a && b) ≡ true → (a ≡ true) × (b ≡ true)
-      lengths true true q = (refl, refl)
-      lengths true false q = (refl, q)
-      lengths false b q = (q, absurd (let z : _≡_ {A = ℕ} 0 1 = cc in omega arith))
-
       ranged : checkOf image ≡ accepted tt → (eqb (length s) (stateLength h) && eqb (length row) (rowLength h)) ≡ true → (a b : Bool) → stateInRange h s ≡ a → rowInRange h row ≡ b
           → testedBefore a 18 (testedBefore b 13 (accepted tt)) ≡ accepted tt → May image s row
       ranged k t true true x y q =
-          let l = lengths (eqb (length s) (stateLength h)) (eqb (length row) (rowLength h)) t in
+          let l = and-both (eqb (length s) (stateLength h)) (eqb (length row) (rowLength h)) t in
           record {
             sound = k;
             numbers = eqb-true (length s) (stateLength h) (l .0);

@@ -6,7 +6,7 @@ use mathlib.Core.Bool.{Bool, true, false}
 use mathlib.Core.List.{List, [], _∷_, map}
 use mathlib.Core.Option.{Option, none, some}
 use lib.IntN.{ℤ, pos}
-use lib.ListN.{length, getD, drop, length-map, length-drop}
+use lib.ListN.{length, getD, drop, length-map}
 use Rattle.arith.specs.Values.{Outcome, ok, refusal, _>>=_}
 use Rattle.arith.proofs.Basics.{ok≢refusal, ok-inj}
 use Rattle.semantics.specs.Program.{Condition, free, noRange}
@@ -18,6 +18,7 @@ use Rattle.leb128.proofs.RoundTrip.{drop-behind}
 use Rattle.bytecode.specs.Instructions.{Instruction, encode, encodeAll, decoded, fetchOne}
 use Rattle.bytecode.specs.Translation.{codeC}
 use Rattle.bytecode.specs.Signature.{signature}
+use Rattle.bytecode.proofs.Soundness.{past-end}
 use Rattle.bytecode.proofs.RoundTrip.{fetch-encoded, encoded-inside}
 use Rattle.bytecode.proofs.Timeless.{timeless-one}
 use Rattle.machine.specs.declared.Registers.{Registers}
@@ -85,12 +86,6 @@ got-some (some j) next i n e =
     let b : next ≡ n = cc in
     (ap some a, b)
 
-no-rest : (code : List ℕ) (at : ℕ) → at < length code → drop at code ≡ [] → ⊥
-no-rest code at h d =
-    let l : length (drop at code) ≡ 0 = ap length d in
-    let j : length code - at ≡ 0 = rw length-drop at l in
-    omega arith
-
 machine-held : (p c : Bool) (vs ws : List ℤ) (t u : State) (q d : Bool) → machine p c vs t ≡ machine q d ws u → vs ≡ ws
 machine-held p c vs ws t u q d e = cc
 
@@ -139,14 +134,14 @@ module _ {code : List ℕ} {s t : State} {c : Condition} {k : Registers} {vals :
   broken h f = go (r .rest) (r .spelled) (r .fit)
     where
       go : (is : List Instruction) → drop at code ≡ encodeAll is → Fit is → ⊥
-      go [] d q = no-rest code at h d
+      go [] d q = omega (arith, past-end code at d)
       go (i ∷ is) d q = none-got (f ∙ one-encoded i is d q)
 
   pub taken : at < length code → (o : Option Instruction) (next : ℕ) → decoded o next ≡ fetchOne code at → Taken code s t c k vals o next
   taken h o next f = go (r .rest) (r .spelled) (r .fit) (r .same)
     where
       go : (is : List Instruction) → drop at code ≡ encodeAll is → Fit is → exec (unranged t) s is (machineOf k vals t) ≡ left s t c → Taken code s t c k vals o next
-      go [] d q e = absurd (no-rest code at h d)
+      go [] d q e = let b : ⊥ = omega (arith, past-end code at d) in absurd b
       go (i ∷ is) d q e =
           let g = got-some o next i (at + length (encode i)) (f ∙ one-encoded i is d q) in
           let p : k .passing ≡ false = r .calmly in

@@ -33,7 +33,7 @@ use Rattle.fused.specs.declared.Ended.{Ended}
 use Rattle.fused.specs.declared.Ended.the-variants as E
 use Rattle.fused.specs.Inner.Passes.{registersOf, Ready, BreaksAt, Moves, Refuses, RefusedBy, CheckedCode, BrokenBy, BrokenCode, Succeeds, Fails, RunBy}
 use Rattle.fused.specs.Inner.Leaps.{Goes, lastly, first, LeapsBy, LeapsFirst}
-use Rattle.fused.proofs.Joining.{same-names}
+use Rattle.fused.proofs.Joining.{names-stay}
 
 -- the settings that lows and highs stand for
 abbrev Settings : List ℤ → List ℤ → Setting → Type 0
@@ -70,8 +70,8 @@ pub moves-ready : {code : List ℕ} {low high prev cur vals : List ℤ} {b : Pro
     → Ready low high prev cur₁ vals₁ k
 moves-ready {b = b} r vals₁ cur₁ k m deeper wider =
     record {
-      small = m .small;
-      sized = same-names (m .instruction) (b .walk) (k .walk) (r .small) (m .advanced) ∙ r .sized;
+      small = m .stride .small;
+      sized = names-stay (m .stride .instruction) (b .walk) (k .walk) (m .stride .advanced) ∙ r .sized;
       room = omega (arith, r .room);
       named = record { highs = r .named .highs; previous = r .named .previous; current = wider ∙ r .named .current };
       opened = m .opened;
@@ -102,13 +102,13 @@ module _ {code : List ℕ} {low high prev : List ℤ} {inputs : ℕ} {cur₀ val
   fusing-goes : (vals₁ cur₁ : List ℤ) (k : Progress) → b .at < length code → Moves code low high prev b vals cur vals₁ cur₁ k → length vals₁ ≡ length vals → length cur₁ ≡ length cur
       → Fusing code low high prev inputs cur₀ vals₀ cur₁ vals₁ k (steps + 1)
   fusing-goes vals₁ cur₁ k l m deeper wider =
-      let i = m .instruction in
-      let behind : b .at < k .at = one-next code (b .at) i (k .at) (m .fetched) .1 in
-      let c = one-done code (Settings low high) prev (b .at) (registersOf b) vals cur l (some i) (k .at) (one-fetched code (b .at) i (k .at) (m .fetched)) vals₁ cur₁ (Next (registersOf k)) (few-held (k .passing) (k .walk .held) (m .small .few-held))
+      let i = m .stride .instruction in
+      let behind : b .at < k .at = one-next code (b .at) i (k .at) (m .stride .fetched) .1 in
+      let c = one-done code (Settings low high) prev (b .at) (registersOf b) vals cur l (some i) (k .at) (one-fetched code (b .at) i (k .at) (m .stride .fetched)) vals₁ cur₁ (Next (registersOf k)) (few-held (k .passing) (k .walk .held) (m .stride .small .few-held))
       (λ ns q. sym (m .acted ns q)) (dispatchedOf (k .at) (Next (registersOf k))) refl in
       record {
         ready = moves-ready (f .ready) vals₁ cur₁ k m deeper wider;
-        walks = walks-on code 0 _ _ _ _ _ (f .walks) (walks-step code (b .at) _ l (some i) (k .at) (m .fetched) _ (m .advanced) behind);
+        walks = walks-on code 0 _ _ _ _ _ (f .walks) (walks-step code (b .at) _ l (some i) (k .at) (m .stride .fetched) _ (m .stride .advanced) behind);
         going = again (f .going) (omega (arith, f .few)) vals₁ cur₁ (registersOf k) (k .at) 1 (record { few = c .few; some-done = omega arith; no-more = omega (arith, f .few); goes = c .goes }) deeper wider;
         few = omega (arith, f .few);
       }
@@ -138,7 +138,7 @@ module _ {code : List ℕ} {low high prev : List ℤ} {inputs : ℕ} {cur₀ val
     behind : (r : Verdict) → Judges code (k .at) (knownOf (k .walk)) r → Judges code (b .at) (knownOf (b .walk)) r
     behind r j =
         judges-on code (b .at) (knownOf (b .walk)) (k .at) (knownOf (k .walk)) r
-        (walks-step code (b .at) (knownOf (b .walk)) l (some (m .instruction)) (k .at) (m .fetched) (knownOf (k .walk)) (m .advanced) (one-next code (b .at) (m .instruction) (k .at) (m .fetched) .1)) j
+        (walks-step code (b .at) (knownOf (b .walk)) l (some (m .stride .instruction)) (k .at) (m .stride .fetched) (knownOf (k .walk)) (m .stride .advanced) (one-next code (b .at) (m .stride .instruction) (k .at) (m .stride .fetched) .1)) j
 
     fusing-refused : Judges code (k .at) (knownOf (k .walk)) J.Sound → Fails code low high prev inputs cur₀ number (steps + 1)
     unfolding heldOf
@@ -148,7 +148,7 @@ module _ {code : List ℕ} {low high prev : List ℤ} {inputs : ℕ} {cur₀ val
           untimed = fusing-untimed (behind J.Sound rest);
           place = b .at;
           went = λ ns q. sym (stopped (f .going) (omega (arith, f .few)) number
-              (one-done code (Settings low high) prev (b .at) (registersOf b) vals cur l (some (m .instruction)) (k .at) (one-fetched code (b .at) (m .instruction) (k .at) (m .fetched)) vals cur (Refused number) tt (λ ns₁ q₁. sym (m .acted ns₁ q₁)) (dispatchedOf (k .at) (Refused number)) refl) ns q);
+              (one-done code (Settings low high) prev (b .at) (registersOf b) vals cur l (some (m .stride .instruction)) (k .at) (one-fetched code (b .at) (m .stride .instruction) (k .at) (m .stride .fetched)) vals cur (Refused number) tt (λ ns₁ q₁. sym (m .acted ns₁ q₁)) (dispatchedOf (k .at) (Refused number)) refl) ns q);
           within = omega (arith, f .few);
         }
 
@@ -181,18 +181,18 @@ module _ {code : List ℕ} {low high prev : List ℤ} {inputs : ℕ} {cur₀ val
 -- each has a byte at least, and ends inside the code
 pub goes-far : {code : List ℕ} {low high prev : List ℤ} (n : ℕ) (b : Progress) (vals cur : List ℤ) (k : Progress) (vals₁ cur₁ : List ℤ) → Goes code low high prev n b vals cur k vals₁ cur₁
     → (b .at + n ≤ k .at) × (k .at ≤ length code) × (1 ≤ n)
-goes-far {code} _ _ _ _ _ _ _ (lastly b vals cur vals₁ cur₁ k m) = (omega (arith, one-next code (b .at) (m .instruction) (k .at) (m .fetched) .1), m .inside, omega arith)
+goes-far {code} _ _ _ _ _ _ _ (lastly b vals cur vals₁ cur₁ k m) = (omega (arith, one-next code (b .at) (m .stride .instruction) (k .at) (m .stride .fetched) .1), m .stride .inside, omega arith)
 goes-far {code} _ _ _ _ _ _ _ (first n b vals cur vals₁ cur₁ m vals₂ cur₂ k o deeper wider rest) =
     let far = goes-far n m vals₁ cur₁ k vals₂ cur₂ rest in
-    (omega (arith, far .0, one-next code (b .at) (o .instruction) (m .at) (o .fetched) .1), far .1, omega arith)
+    (omega (arith, far .0, one-next code (b .at) (o .stride .instruction) (m .at) (o .stride .fetched) .1), far .1, omega arith)
 
 pub fusing-leaps : {code : List ℕ} {low high prev : List ℤ} {inputs : ℕ} {cur₀ vals₀ : List ℤ} {steps : ℕ} (n : ℕ) (b : Progress) (vals cur : List ℤ) (k : Progress) (vals₁ cur₁ : List ℤ)
     → Goes code low high prev n b vals cur k vals₁ cur₁ → Fusing code low high prev inputs cur₀ vals₀ cur vals b steps → length vals₁ ≡ length vals → length cur₁ ≡ length cur
     → Fusing code low high prev inputs cur₀ vals₀ cur₁ vals₁ k (steps + n)
 fusing-leaps {code} _ _ _ _ _ _ _ (lastly b vals cur vals₁ cur₁ k m) f deeper wider =
-    fusing-goes f vals₁ cur₁ k (one-next code (b .at) (m .instruction) (k .at) (m .fetched) .0) m deeper wider
+    fusing-goes f vals₁ cur₁ k (one-next code (b .at) (m .stride .instruction) (k .at) (m .stride .fetched) .0) m deeper wider
 fusing-leaps {code} {low} {high} {prev} {inputs} {cur₀} {vals₀} {steps} _ _ _ _ _ _ _ (first n b vals cur vals₁ cur₁ m vals₂ cur₂ k o deep wide rest) f deeper wider =
-    let on = fusing-goes f vals₁ cur₁ m (one-next code (b .at) (o .instruction) (m .at) (o .fetched) .0) o deep wide in
+    let on = fusing-goes f vals₁ cur₁ m (one-next code (b .at) (o .stride .instruction) (m .at) (o .stride .fetched) .0) o deep wide in
     let e : steps + 1 + n ≡ steps + (1 + n) = omega arith in
     subst (λ (s : ℕ). Fusing code low high prev inputs cur₀ vals₀ cur₂ vals₂ k s) e (fusing-leaps n m vals₁ cur₁ k vals₂ cur₂ rest on (deeper ∙ sym deep) (wider ∙ sym wide))
 

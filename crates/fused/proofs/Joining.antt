@@ -13,7 +13,8 @@ use Rattle.semantics.specs.Shape.{Setting}
 use Rattle.leb128.specs.Numbers.{Read, got, nothing, numberAt}
 use Rattle.bytecode.specs.Instructions.{Instruction, instructionOf, hasOperand, decoded, fetchOne}
 use Rattle.bytecode.specs.Check.{advance}
-use Rattle.bytecode.proofs.Soundness.{none≢some, idsOf, advance-small}
+use Rattle.bytecode.proofs.Soundness.{none≢some, idsOf}
+use Rattle.bytecode.proofs.SoundLimits.{ids-kept}
 use Rattle.bytecode.specs.Signature.{signature}
 use Rattle.bytecode.proofs.Timeless.{TimelessIn, one-timeless}
 use Rattle.bytecode.proofs.Fetching.{fetch-alone, fetch-number, fetch-malformed}
@@ -34,7 +35,7 @@ use Rattle.machine.proofs.Changes.{names-length}
 use Rattle.machine.proofs.Stack.{length-held}
 use Rattle.fused.specs.declared.Progress.{Progress}
 use Rattle.fused.specs.declared.Moved.{Moved}
-use Rattle.fused.specs.Inner.Passes.{registersOf, movedOf, Ready, BreaksAt, Moves, MovesBy}
+use Rattle.fused.specs.Inner.Passes.{registersOf, movedOf, Ready, Strides, BreaksAt, Moves, MovesBy}
 
 -- ---- ranges of which only lows and highs are known
 
@@ -72,9 +73,8 @@ opens w false c n vals cur m e = absurd (false≢true e)
 opens w true c n vals cur m e = m .0
 
 -- an instruction leaves as many names
-pub same-names : (i : Instruction) (w k : Walk) → Small w → advance i (knownOf w) ≡ some (knownOf k) → k .names ≡ w .names
-same-names i w k small e =
-    sym (length-flags (k .names) (k .known)) ∙ advance-small i (knownOf w) (knownOf k) (omega (arith, length-flags (w .names) (w .known), small .few-names)) e .1 ∙ length-flags (w .names) (w .known)
+pub names-stay : (i : Instruction) (w k : Walk) → advance i (knownOf w) ≡ some (knownOf k) → k .names ≡ w .names
+names-stay i w k e = sym (length-flags (k .names) (k .known)) ∙ ids-kept i (knownOf w) (knownOf k) e ∙ length-flags (w .names) (w .known)
 
 module _ {low high prev cur vals : List ℤ} {b : Progress} (r : Ready low high prev cur vals b) where
   -- the ranges that the memory stands for, with any starts
@@ -97,15 +97,14 @@ module _ {low high prev cur vals : List ℤ} {b : Progress} (r : Ready low high 
     not-passing = rw go
 
     module _ (i : Instruction) (f : fetchOne code (b .at) ≡ got i next) (inside : next ≤ length code) (e : advance i (knownOf (b .walk)) ≡ some (knownOf k)) (small : Small k) where
+      strides : Strides code (b .walk) (b .at) k next
+      strides = record { instruction = i; fetched = f; inside = inside; advanced = e; small = small }
+
       takes : (t : Registers) → ((ns : Setting) → RangesIn (ns .ranges) low high → ok (machineOf t vals₁ cur₁) ≡ step ns prev i (machineOf doing vals cur))
           → Moves code low high prev b vals cur vals₁ cur₁ (record { walk = k; at = next; picked = t .picked; passing = t .passing })
       takes t a =
           record {
-            instruction = i;
-            fetched = f;
-            inside = inside;
-            advanced = e;
-            small = small;
+            stride = strides;
             acted = λ ns q. sym (acts ns q) ∙ ap (λ (vs : List ℤ). ok (machine (t .passing) (t .picked) vs cur₁)) (aligned k (t .passing) (t .picked) (t .held) vals₁ cur₁ (matched ns q));
             opened = opens k (t .passing) (t .picked) (t .held) vals₁ cur₁ (matched (settingBy low high) here);
           }
@@ -120,7 +119,7 @@ module _ {low high prev cur vals : List ℤ} {b : Progress} (r : Ready low high 
           → MovesBy code low high prev b vals cur vals₁ cur₁ (movedOf k next s)
       done (S.Next t) a = takes t a
       done (S.Refused number) a =
-          record { instruction = i; fetched = f; inside = inside; advanced = e; small = small; acted = λ ns q. sym (a ns q ∙ ap (λ (m : Machine). step ns prev i m) not-passing) }
+          record { stride = strides; acted = λ ns q. sym (a ns q ∙ ap (λ (m : Machine). step ns prev i m) not-passing) }
 
     -- read as this instruction, with this place behind it
     pub arrives : (o : Option Instruction) → fetchOne code (b .at) ≡ decoded o next → next ≤ length code → (a : Advanced) → a ≡ Kept k → advancedKnown a ≡ advanceBy o (knownOf (b .walk)) → SmallAfter a

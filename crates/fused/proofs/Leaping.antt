@@ -20,7 +20,7 @@ use Rattle.bytecode.proofs.Fetching.{fetch-alone}
 use Rattle.checker.specs.declared.advance.Walk.{Walk}
 use Rattle.checker.specs.declared.advance.Advanced.the-variants.{Kept}
 use Rattle.checker.specs.Inner.Walk.{knownOf, pushed, Small}
-use Rattle.checker.specs.Inner.Stretches.{withNumber}
+use Rattle.checker.specs.Inner.Stretches.{withNumber, withSort}
 use Rattle.checker.proofs.Steps.{operation-is, comparison-is, constant-is}
 use Rattle.checker.proofs.Stretching.{pushed-is, number-small, truth-small, two-tested, two-joined, previous-pushed, current-pushed}
 use Rattle.machine.specs.declared.Registers.{Registers}
@@ -38,7 +38,7 @@ use Rattle.fused.specs.declared.ahead.Leap.{Leap}
 use Rattle.fused.specs.declared.ahead.Seen.{Seen}
 use Rattle.fused.specs.declared.ahead.Seen.the-variants as N
 use Rattle.fused.specs.Inner.Passes.{Ready, Moves, MovesBy}
-use Rattle.fused.specs.Inner.Leaps.{withSort, MadeOf, FoundBy, PairSeen, SeenBy, Goes, lastly, first, leapOf, LeapsBy}
+use Rattle.fused.specs.Inner.Leaps.{MadeOf, FoundBy, PairSeen, SeenBy, Goes, lastly, first, leapOf, LeapsBy}
 use Rattle.machine.proofs.Fetches.{short-fetch, second-is}
 use Rattle.fused.proofs.Joining.{arrives}
 
@@ -89,23 +89,17 @@ module _ (code : List ℕ) (prev cur : List ℤ) (at : ℕ) (w : Walk) (small : 
       (loads : (ns : Setting) (c : Bool) (vs : List ℤ) → length (ns .ranges) ≡ w .names → perform ns prev loading c vs cur ≡ push x c vs cur) where
     seen : (v : ℤ) (sort : ℕ) → MadeOf w (getD code (at + 4) 0) x (unzigzag (getD code (at + 3) 0)) v sort → PairSeen code prev cur at w v sort
     seen v sort m =
-        let q : at + 4 + 1 ≡ at + 5 = omega arith in
         record {
           loading = loading;
           x = x;
-          operand = getD code (at + 3) 0;
-          acting = m .acting;
           first = short-fetch code at byte is loading (omega arith) has (omega (arith, small .few-names)) i;
           second = second-is code at l one short;
-          third = fetch-alone code (at + 4) l (m .alone) ∙ rw (m .listed, q);
           inside = omega arith;
           short = short;
           room = room;
-          sort-low = m .sort-low;
           admitted = e;
           loaded = loads;
-          moved = m .moved;
-          worked = m .worked;
+          made = m;
         }
 
     sees : (r : Seen) → FoundBy w (getD code (at + 4) 0) x (unzigzag (getD code (at + 3) 0)) r → SeenBy code prev cur at w r
@@ -136,7 +130,7 @@ module _ {low high prev cur vals : List ℤ} {b : Progress} (r : Ready low high 
 module _ (code : List ℕ) {low high prev cur vals : List ℤ} {b : Progress} (r : Ready low high prev cur vals b) (go : b .passing ≡ false) (v : ℤ) (sort : ℕ)
     (c : PairSeen code prev cur (b .at) (b .walk) v sort) where
   abbrev y : ℤ
-  y = unzigzag (c .operand)
+  y = unzigzag (getD code (b .at + 3) 0)
 
   abbrev one-on : Progress
   one-on = record { walk = withNumber (b .walk); at = b .at + 2; picked = b .picked; passing = false }
@@ -173,27 +167,29 @@ module _ (code : List ℕ) {low high prev cur vals : List ℤ} {b : Progress} (r
   move-two : Moves code low high prev one-on vals-one cur vals-two cur two-on
   move-two =
       arrives ready-one refl code (b .at + 4) (withNumber (withNumber (b .walk))) vals-two cur (some (constant y)) (c .second) (omega (arith, c .inside)) (Kept (withNumber (withNumber (b .walk)))) refl
-      (sym (constant-is (c .operand) (knownOf (withNumber (b .walk))) (omega (arith, c .short)) ∙ pushed-is (withNumber (b .walk)) (omega (arith, c .room)))) (ready-two .small)
+      (sym (constant-is (getD code (b .at + 3) 0) (knownOf (withNumber (b .walk))) (omega (arith, c .short)) ∙ pushed-is (withNumber (b .walk)) (omega (arith, c .room)))) (ready-two .small)
       (S.Next (holding (b .walk .held + 1 + 1))) (λ ns q. push-put vals-one (b .walk .held + 1) y (b .picked) cur (omega (arith, c .room)) (ready-one .room)) (M.On two-on) refl
 
   sort-small : Small (withSort (b .walk) sort)
   sort-small =
       let t = truth-small (b .walk) (r .small) (omega (arith, c .room)) in
-      record { few-held = t .few-held; sorts-low = omega (arith, t .sorts-low, c .sort-low); few-names = t .few-names; known-low = t .known-low }
+      record { few-held = t .few-held; sorts-low = omega (arith, t .sorts-low, c .made .sort-low); few-names = t .few-names; known-low = t .known-low }
 
   abbrev pub vals-three : List ℤ
   vals-three = set vals (b .walk .held) v
 
-  made-three : (ns : Setting) → ok (machine false (b .picked) (heldOf vals-three (b .walk .held + 1)) cur) ≡ perform ns prev (c .acting) (b .picked) (heldOf vals-two (b .walk .held + 1 + 1)) cur
+  made-three : (ns : Setting) → ok (machine false (b .picked) (heldOf vals-three (b .walk .held + 1)) cur) ≡ perform ns prev (c .made .acting) (b .picked) (heldOf vals-two (b .walk .held + 1 + 1)) cur
   made-three ns =
       let h = b .walk .held in
       rw (held-put vals-one (h + 1) y (omega (arith, ready-one .room, c .room)), held-put vals h (c .x) (omega (arith, r .room, c .room)), held-put vals h v (omega (arith, r .room, c .room)))
-      (sym (c .worked ns prev cur (b .picked) (heldOf vals h)))
+      (sym (c .made .worked ns prev cur (b .picked) (heldOf vals h)))
 
   move-three : Moves code low high prev two-on vals-two cur vals-three cur three-on
   move-three =
-      arrives ready-two refl code (b .at + 5) (withSort (b .walk) sort) vals-three cur (some (c .acting)) (c .third) (c .inside) (Kept (withSort (b .walk) sort)) refl
-      (sym (c .moved)) sort-small (S.Next (holding (b .walk .held + 1))) (λ ns q. made-three ns) (M.On three-on) refl
+      let q : b .at + 4 + 1 ≡ b .at + 5 = omega arith in
+      let third = fetch-alone code (b .at + 4) (omega (arith, c .inside)) (c .made .alone) ∙ rw (c .made .listed, q) in
+      arrives ready-two refl code (b .at + 5) (withSort (b .walk) sort) vals-three cur (some (c .made .acting)) third (c .inside) (Kept (withSort (b .walk) sort)) refl
+      (sym (c .made .moved)) sort-small (S.Next (holding (b .walk .held + 1))) (λ ns q. made-three ns) (M.On three-on) refl
 
   pub pair-leaps : Goes code low high prev 3 b vals cur three-on vals-three cur
   pair-leaps =

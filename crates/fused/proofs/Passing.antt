@@ -44,7 +44,7 @@ module _ (code : List ℕ) (b : Progress) (within : b .at < length code) where
       → advancedKnown a ≡ advanceBy o (knownOf (b .walk)) → SmallAfter a → PassesBy code b (passedOver b next p a)
   by-walk o next p f i g Broken e s = judges-broken code (b .at) (knownOf (b .walk)) within o next f (sym e)
   by-walk none next p f i g (Kept k) e s = none≢some _ (sym e)
-  by-walk (some x) next p f i g (Kept k) e s = record { instruction = x; fetched = f; inside = i; advanced = sym e; small = s; same-picked = refl; passing-is = g }
+  by-walk (some x) next p f i g (Kept k) e s = record { stride = record { instruction = x; fetched = f; inside = i; advanced = sym e; small = s }; same-picked = refl; passing-is = g }
 
   pub passes : (o : Option Instruction) (next : ℕ) (p : Bool) → fetchOne code (b .at) ≡ decoded o next → next ≤ length code → GoesOn o p → (a : Advanced)
       → advancedKnown a ≡ advanceBy o (knownOf (b .walk)) → SmallAfter a → (m : Moved) → m ≡ passedOver b next p a → PassesBy code b m
@@ -88,23 +88,19 @@ module _ (code : List ℕ) {low high prev cur vals : List ℤ} {b : Progress} (r
   over-moves : (k : Progress) → Passes code b k → Moves code low high prev b vals cur vals cur k
   over-moves k p =
       record {
-        instruction = p .instruction;
-        fetched = p .fetched;
-        inside = p .inside;
-        advanced = p .advanced;
-        small = p .small;
+        stride = p .stride;
         acted = λ ns q. acts ns ∙ rw (p .passing-is, p .same-picked) (ap (λ (vs : List ℤ). ok (machine on (b .picked) vs cur)) (aligned (k .walk) on (b .picked) 0 vals cur (matched ns q)));
         opened = rw (p .passing-is) (opens (k .walk) on (b .picked) 0 vals cur (matched (settingBy low high) (here r)));
       }
     where
       on : Bool
-      on = not (isPick (p .instruction))
+      on = not (isPick (p .stride .instruction))
 
-      acts : (ns : Setting) → step ns prev (p .instruction) (machineOf (registersOf b) vals cur) ≡ ok (machine (not (isPick (p .instruction))) (b .picked) (heldOf vals 0) cur)
+      acts : (ns : Setting) → step ns prev (p .stride .instruction) (machineOf (registersOf b) vals cur) ≡ ok (machine (not (isPick (p .stride .instruction))) (b .picked) (heldOf vals 0) cur)
       acts ns = rw go
 
-      matched : (ns : Setting) → RangesIn (ns .ranges) low high → Matches (knownOf (k .walk)) (machine (not (isPick (p .instruction))) (b .picked) (heldOf vals 0) cur)
-      matched ns q = subst (λ o. KeptBy (knownOf (k .walk)) o) (acts ns) (kept r (p .instruction) (k .walk) (one-timeless code (b .at) (p .instruction) (k .at) (p .fetched)) ns q (p .advanced))
+      matched : (ns : Setting) → RangesIn (ns .ranges) low high → Matches (knownOf (k .walk)) (machine (not (isPick (p .stride .instruction))) (b .picked) (heldOf vals 0) cur)
+      matched ns q = subst (λ o. KeptBy (knownOf (k .walk)) o) (acts ns) (kept r (p .stride .instruction) (k .walk) (one-timeless code (b .at) (p .stride .instruction) (k .at) (p .stride .fetched)) ns q (p .stride .advanced))
 
   pub over-moves-by : (m : Moved) → PassesBy code b m → MovesBy code low high prev b vals cur vals cur m
   over-moves-by M.Broken p = p

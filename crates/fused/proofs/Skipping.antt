@@ -42,7 +42,7 @@ use Rattle.fused.specs.declared.ahead.Settled.{Settled}
 use Rattle.fused.specs.declared.ahead.Settled.the-variants as T
 use Rattle.fused.specs.Inner.Passes.{Ready, BreaksAt, Moves, PassesBy}
 use Rattle.fused.specs.Inner.Leaps.{withHeld, Skips, SkippedBy, SkipsTo, stays, further, SettledBy, Goes, lastly, first, LeapsOver, LeapsFirst}
-use Rattle.fused.proofs.Joining.{arrives, with-operand}
+use Rattle.fused.proofs.Joining.{names-stay, arrives, with-operand}
 use Rattle.fused.proofs.Fusing.{moves-ready}
 use Rattle.fused.proofs.Passing.{open-breaks, over-moves-by}
 
@@ -62,14 +62,15 @@ module _ (w : Walk) (z : w .sorts ≡ 0) where
     pushes l i next f behind n e =
         let more = number-small (withHeld w held) small l in
         record {
-          instruction = i;
-          fetched = f;
-          inside = behind;
-          advanced = e ∙ pushed-is (withHeld w held) l ∙ ap (λ (c : Known). some c) (grown held (held + 1) refl);
-          small = record { few-held = more .few-held; sorts-low = omega (arith, more .sorts-low, z); few-names = small .few-names; known-low = small .known-low };
+          stride = record {
+            instruction = i;
+            fetched = f;
+            inside = behind;
+            advanced = e ∙ pushed-is (withHeld w held) l ∙ ap (λ (c : Known). some c) (grown held (held + 1) refl);
+            small = record { few-held = more .few-held; sorts-low = omega (arith, more .sorts-low, z); few-names = small .few-names; known-low = small .known-low };
+          };
           no-pick = n;
           same-gate = refl;
-          same-names = refl;
         }
 
     module _ (n next : ℕ) (num : numberAt code (at + 1) ≡ got n next) (l : held < 40) where
@@ -95,14 +96,15 @@ module _ (w : Walk) (z : w .sorts ≡ 0) where
         let o = operationOf byte in
         let e : held ≡ held - 1 + 1 = omega arith in
         record {
-          instruction = operation o;
-          fetched = fetch-alone code at inside (no-operand byte least (omega arith)) ∙ ap (λ (i : Option Instruction). decoded i (at + 1)) (operation-of byte 0 least most);
-          inside = omega arith;
-          advanced = subst (λ (c : Known). advance (operation o) c ≡ some (knownOf (withHeld w (held - 1)))) (grown (held - 1) held e) (operation-is o _ ∙ two-joined (withHeld w (held - 1)) (omega arith) (omega (arith, z)));
-          small = record { few-held = omega (arith, small .few-held); sorts-low = omega (arith, z, join-low held (w .sorts) 0 l (small .sorts-low) (omega arith)); few-names = small .few-names; known-low = small .known-low };
+          stride = record {
+            instruction = operation o;
+            fetched = fetch-alone code at inside (no-operand byte least (omega arith)) ∙ ap (λ (i : Option Instruction). decoded i (at + 1)) (operation-of byte 0 least most);
+            inside = omega arith;
+            advanced = subst (λ (c : Known). advance (operation o) c ≡ some (knownOf (withHeld w (held - 1)))) (grown (held - 1) held e) (operation-is o _ ∙ two-joined (withHeld w (held - 1)) (omega arith) (omega (arith, z)));
+            small = record { few-held = omega (arith, small .few-held); sorts-low = omega (arith, z, join-low held (w .sorts) 0 l (small .sorts-low) (omega arith)); few-names = small .few-names; known-low = small .known-low };
+          };
           no-pick = refl;
           same-gate = refl;
-          same-names = refl;
         }
 
 pub skipped : (code : List ℕ) (w : Walk) (held at : ℕ) (r : Skipped) (more next : ℕ) → SkippedBy code w held at r → r ≡ K.Over more next → Skips code (withHeld w held) at (withHeld w more) next
@@ -114,7 +116,7 @@ module _ (code : List ℕ) (w : Walk) (at : ℕ) where
   -- each has a byte at least
   pub skips-far : (n : ℕ) (k : Walk) (next : ℕ) → SkipsTo code w at n k next → at + n ≤ next
   skips-far _ _ _ stays = omega arith
-  skips-far _ _ _ (further n k next j later o s) = omega (arith, skips-far n k next o, one-next code next (s .instruction) later (s .fetched) .1)
+  skips-far _ _ _ (further n k next j later o s) = omega (arith, skips-far n k next o, one-next code next (s .stride .instruction) later (s .stride .fetched) .1)
 
   pub skips-some : (n : ℕ) (k : Walk) (next : ℕ) → SkipsTo code w at n k next → at < next → 1 ≤ n
   skips-some _ _ _ stays l = let f : ⊥ = omega arith in absurd f
@@ -122,7 +124,7 @@ module _ (code : List ℕ) (w : Walk) (at : ℕ) where
 
   pub skips-kept : Small w → (n : ℕ) (k : Walk) (next : ℕ) → SkipsTo code w at n k next → Small k × (k .gate ≡ w .gate)
   skips-kept small _ _ _ stays = (small, refl)
-  skips-kept small _ _ _ (further n k next j later o s) = (s .small, s .same-gate ∙ skips-kept small n k next o .1)
+  skips-kept small _ _ _ (further n k next j later o s) = (s .stride .small, s .same-gate ∙ skips-kept small n k next o .1)
 
   -- none of them
   pub skips-none : (n : ℕ) (k : Walk) (next : ℕ) → SkipsTo code w at n k next → n ≡ 0 → (k ≡ w) × (next ≡ at)
@@ -142,17 +144,13 @@ module _ (code : List ℕ) {low high prev cur vals : List ℤ} {b : Progress} (r
   ready-at _ _ _ stays = record { small = r .small; sized = r .sized; room = r .room; named = r .named; opened = λ t. r .opened go }
   ready-at _ _ _ (further n k next j later o s) =
       let q = ready-at n k next o in
-      record { small = s .small; sized = s .same-names ∙ q .sized; room = r .room; named = r .named; opened = λ t. ap openOf (s .same-gate) ∙ q .opened refl }
+      record { small = s .stride .small; sized = names-stay (s .stride .instruction) k j (s .stride .advanced) ∙ q .sized; room = r .room; named = r .named; opened = λ t. ap openOf (s .same-gate) ∙ q .opened refl }
 
   skip-moves : (k : Walk) (next : ℕ) (j : Walk) (later : ℕ) → Ready low high prev cur vals (passingAt b k next) → Skips code k next j later
       → Moves code low high prev (passingAt b k next) vals cur vals cur (passingAt b j later)
   skip-moves k next j later q s =
       over-moves-by code q refl (M.On (passingAt b j later)) record {
-        instruction = s .instruction;
-        fetched = s .fetched;
-        inside = s .inside;
-        advanced = s .advanced;
-        small = s .small;
+        stride = s .stride;
         same-picked = refl;
         passing-is = sym (ap not (s .no-pick));
       }

@@ -9,8 +9,8 @@ use lib.Dec.{eqb}
 use lib.IntN.{ℤ}
 use lib.ListN.{length, getD, set, length-set}
 use borrow.Author.Tests.{lt-ltb}
-use Rattle.arith.specs.Values.{Outcome, Comparison, ok, compares}
-use Rattle.semantics.specs.Formula.{State, at as valueAt}
+use Rattle.arith.specs.Values.{Outcome, compares}
+use Rattle.semantics.specs.Formula.{at as valueAt}
 use Rattle.semantics.specs.Shape.{Setting}
 use Rattle.leb128.specs.Numbers.{Read, got, nothing, numberAt, unzigzag}
 use Rattle.bytecode.specs.Instructions.{Instruction, constant, current, previous, comparison, timer, comparisonOf, instructionOf, hasOperand, decoded, fetch}
@@ -20,7 +20,7 @@ use Rattle.machine.specs.declared.Stepped.{Stepped}
 use Rattle.machine.specs.declared.Stepped.the-variants as S
 use Rattle.machine.specs.declared.dispatch.Dispatched.{Dispatched}
 use Rattle.machine.specs.declared.dispatch.Dispatched.the-variants as D
-use Rattle.machine.specs.Step.{Machine, machine, bit, push, perform}
+use Rattle.machine.specs.Step.{Machine, bit, push, perform}
 use Rattle.machine.specs.Runs.{afterStep, run}
 use Rattle.machine.specs.Inner.Memory.{heldOf, machineOf, stepOutcome, stepped, Few}
 use Rattle.machine.specs.Inner.Groups.{truthOf, performed, worked}
@@ -121,12 +121,6 @@ module _ (code : List ℕ) (settings : Setting → Type 0) (prev : List ℤ) (at
 
 -- ---- a value, a constant and their comparison
 
-pub compares-two : (ns : Setting) (s t : State) (o : Comparison) (c : Bool) (vals : List ℤ) (h : ℕ) (x y : ℤ) → h + 2 ≤ 40 → 40 ≤ length vals
-    → ok (machine false c (heldOf (set vals h (bit (compares o x y))) (h + 1)) t) ≡ perform ns s (comparison o) c (heldOf (set (set vals h x) (h + 1) y) (h + 1 + 1)) t
-compares-two ns s t o c vals h x y l room =
-    let deep : h + 1 < length (set vals h x) = omega (arith, length-set vals h x) in
-    rw (held-put (set vals h x) (h + 1) y deep, held-put vals h x (omega arith), held-put vals h (bit (compares o x y)) (omega arith))
-
 module _ (code : List ℕ) (settings : Setting → Type 0) (prev : List ℤ) (at held : ℕ) (picked : Bool) (vals cur : List ℤ) (left : ℕ) (found : Bool)
     (c : Comparing code prev cur at held left found) (sized : (ns : Setting) → settings ns → length (ns .ranges) ≡ length prev) (room : 40 ≤ length vals) where
   abbrev y : ℤ
@@ -156,7 +150,7 @@ module _ (code : List ℕ) (settings : Setting → Type 0) (prev : List ℤ) (at
   compares-here : DispatchedBy code settings prev (at + 4) (registers (held + 1 + 1) picked false) vals-two cur (set vals held (bit found)) cur 1 (D.On (held + 1) picked false (at + 5) 1)
   compares-here =
       one-done code settings prev (at + 4) (registers (held + 1 + 1) picked false) vals-two cur (omega (arith, c .inside)) (some (comparison (c .relation))) (at + 5) (one-fetched code (at + 4) (comparison (c .relation)) (at + 5) (c .third)) (set vals held (bit found)) cur (S.Next (registers (held + 1) picked false)) (omega (arith, c .room))
-      (λ ns q. ap (λ (b : Bool). ok (machine false picked (heldOf (set vals held (bit b)) (held + 1)) cur)) (c .finds) ∙ compares-two ns prev cur (c .relation) picked vals held (c .x) y (c .room) room)
+      (λ ns q. rw (c .finds, held-put vals-one (held + 1) y (omega (arith, deep, c .room)), held-put vals held (c .x) (omega (arith, c .room)), held-put vals held (bit (compares (c .relation) (c .x) y)) (omega (arith, c .room))))
       (D.On (held + 1) picked false (at + 5) 1) refl
 
   three-done : (ns : Setting) (budget done : ℕ) → settings ns → 3 ≤ budget

@@ -22,7 +22,7 @@ use Rattle.bytecode.specs.Instructions.{Instruction, constant, current, previou
 use Rattle.bytecode.specs.Signature.{Sort, Role, pushes, computes, tests, opens, picks, lets, settles, times, signature}
 use Rattle.bytecode.specs.Check.{Picks, Known, known, one, empty, unset, closed, fresh, opened, admits, advance}
 use Rattle.bytecode.proofs.Timeless.{TimelessIn, OfTimer, of-timer}
-use Rattle.bytecode.proofs.Soundness.{some-inj, none≢some, guard-some, idsOf, known-inside, third}
+use Rattle.bytecode.proofs.Soundness.{some-inj, none≢some, guard-some, idsOf, known-inside, unset-inside}
 use Rattle.bytecode.proofs.Exactly.{taking-shape}
 use Rattle.machine.specs.Step.{Machine, machine, bit, yes, push, pop, gated, settled, endsPassing, isPick, declared, perform, step}
 
@@ -152,6 +152,9 @@ over-keeps i vs o ids d c ms t e h =
 second : (a b c e : Bool) → T (a && b && c && e) → T b
 second a b c e h = and-right a b (and-left (a && b) c (and-left (a && b && c) e h))
 
+third : (a b c e : Bool) → T (a && b && c && e) → T c
+third a b c e h = and-right (a && b) c (and-left (a && b && c) e h)
+
 none-held : (ms : List ℤ) → ms ≡ [] → length ms ≡ 0
 none-held ms h = rw h
 
@@ -180,7 +183,7 @@ module _ (ns : Setting) (s : State) where
 
   module _ (ids : List Bool) (size : length ids ≤ length (ns .ranges)) where
     unset-declared : (v : ℕ) → T (unset ids v) → v < length (ns .ranges)
-    unset-declared v h = omega (arith, ltb→lt v (length ids) (and-left (ltb v (length ids)) (not (getD ids v false)) h))
+    unset-declared v h = omega (arith, unset-inside ids v h)
 
     -- an instruction that is not passed over
     perform-keeps : (i : Instruction) (vs : List Sort) (g : Bool) (o : Option Picks) (d : Known) (c : Bool) (ms : List ℤ) (t : State) → StandsIn (signature i .role) → length ms ≡ length vs

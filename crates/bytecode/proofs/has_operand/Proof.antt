@@ -1,70 +1,32 @@
 -- `bytecode::has_operand` meets its contract. Assumes nothing.
+use Prim.Native.Nat.{ℕ, _≤_, _<_}
+use mathlib.Core.Path.{_≡_}
+use mathlib.Core.Bool.{true, false, _&&_}
 use native.Mathlib.Omega.{arith}
+use lib.Dec.{leb}
 use borrow.Author.Tests.{le-leb, lt-leb}
 use Rattle.bytecode.specs.Instructions.{hasOperand}
 use Rattle.bytecode.proofs.has_operand.Statement.{statement}
 use Rattle.bytecode.proofs.has_operand.Tie as tie
 
-returns : tie.Need-returns
-unfolding hasOperand
-returns c = rw (le-leb _ _ (c .before .if1 .left), le-leb (c .before .before .args .code) 3 (omega arith))
+module _ (low high code : ℕ) where
+  among : low ≤ code → code ≤ high → (leb low code && leb code high) ≡ true
+  among l h = rw (le-leb low code l, le-leb code high h)
 
-returns-2 : tie.Need-returns-2
-unfolding hasOperand
-returns-2 c =
-    let start = c .before .before .before .before in
-    rw (le-leb _ _ (c .before .before .before .if1 .left), lt-leb (start .args .code) 3 (omega arith), le-leb _ _ (c .before .if3 .left), le-leb (start .args .code) 22 (omega arith))
+  below : code < low → (leb low code && leb code high) ≡ false
+  below h = rw (lt-leb low code h)
 
-returns-3 : tie.Need-returns-3
-unfolding hasOperand
-returns-3 c =
-    let at-if3 = c .before .before .before in
-    let start = at-if3 .before .before .before in
-    rw (
-      le-leb _ _ (at-if3 .before .before .if1 .left),
-      lt-leb (start .args .code) 3 (omega (arith, at-if3 .if3 .left)),
-      le-leb _ _ (at-if3 .if3 .left),
-      lt-leb (start .args .code) 22 (omega (arith, c .before .if5 .left)),
-      le-leb _ _ (c .before .if5 .left),
-      le-leb (start .args .code) 25 (omega arith),
-    )
-
-returns-4 : tie.Need-returns-4
-unfolding hasOperand
-returns-4 c = rw (lt-leb _ _ (c .if1 .taken), lt-leb 20 (c .before .args .code) (omega arith), lt-leb 24 (c .before .args .code) (omega arith))
-
-returns-5 : tie.Need-returns-5
-unfolding hasOperand
-returns-5 c =
-    let start = c .before .before .before in
-    rw (le-leb _ _ (c .before .before .if1 .left), lt-leb (start .args .code) 3 (omega arith), lt-leb _ _ (c .if3 .taken), lt-leb 24 (start .args .code) (omega arith))
-
-returns-6 : tie.Need-returns-6
-unfolding hasOperand
-returns-6 c =
-    let at-if3 = c .before .before in
-    let start = at-if3 .before .before .before in
-    rw (
-      le-leb _ _ (at-if3 .before .before .if1 .left),
-      lt-leb (start .args .code) 3 (omega (arith, at-if3 .if3 .left)),
-      le-leb _ _ (at-if3 .if3 .left),
-      lt-leb (start .args .code) 22 (omega (arith, c .before .if4 .left)),
-      lt-leb _ _ (c .if5 .taken),
-    )
-
-returns-7 : tie.Need-returns-7
-unfolding hasOperand
-returns-7 c =
-    let at-if3 = c .before .before .before in
-    let start = at-if3 .before .before .before in
-    rw (
-      le-leb _ _ (at-if3 .before .before .if1 .left),
-      lt-leb (start .args .code) 3 (omega (arith, at-if3 .if3 .left)),
-      le-leb _ _ (at-if3 .if3 .left),
-      lt-leb (start .args .code) 22 (omega (arith, c .before .if5 .left)),
-      le-leb _ _ (c .before .if5 .left),
-      lt-leb (start .args .code) 25 (omega arith),
-    )
+  beyond : low ≤ high → high < code → (leb low code && leb code high) ≡ false
+  beyond l h = rw (le-leb low code (omega arith), lt-leb code high h)
 
 pub has-operand-spec : {M : Type 1} → statement M
-has-operand-spec = tie.close (tie.spec returns returns-2 returns-3 returns-4 returns-5 returns-6 returns-7)
+unfolding hasOperand
+has-operand-spec =
+    tie.close
+    (tie.spec (λ c. rw (among 1 3 (c .before .before .args .code) (omega arith) (omega arith)))
+    (λ c. rw (beyond 1 3 (c .before .before .before .before .args .code) (omega arith) (omega arith), among 20 22 (c .before .before .before .before .args .code) (omega arith) (omega arith)))
+    (λ c. let n = c .before .before .before .before .before .before .args .code in rw (beyond 1 3 n (omega arith) (omega arith), beyond 20 22 n (omega arith) (omega arith), among 24 25 n (omega arith) (omega arith)))
+    (λ c. let n = c .before .args .code in rw (below 1 3 n (omega arith), below 20 22 n (omega arith), below 24 25 n (omega arith)))
+    (λ c. let n = c .before .before .before .args .code in rw (beyond 1 3 n (omega arith) (omega arith), below 20 22 n (omega arith), below 24 25 n (omega arith)))
+    (λ c. let n = c .before .before .before .before .before .args .code in rw (beyond 1 3 n (omega arith) (omega arith), beyond 20 22 n (omega arith) (omega arith), below 24 25 n (omega arith)))
+    (λ c. let n = c .before .before .before .before .before .before .args .code in rw (beyond 1 3 n (omega arith) (omega arith), beyond 20 22 n (omega arith) (omega arith), beyond 24 25 n (omega arith) (omega arith))))

@@ -15,12 +15,13 @@ use Rattle.checker.specs.Results.{BreaksUnlessTimed}
 
 -- ---- a value more
 
--- a number more is held, or a yes-no
+-- a number more is held
 abbrev pub withNumber : Walk → Walk
 withNumber w = record { held = w .held + 1; sorts = w .sorts * 2; gate = w .gate; picking = w .picking; known = w .known; names = w .names }
 
-abbrev pub withTruth : Walk → Walk
-withTruth w = record { held = w .held + 1; sorts = w .sorts * 2 + 1; gate = w .gate; picking = w .picking; known = w .known; names = w .names }
+-- a value more, of a sort
+abbrev pub withSort : Walk → ℕ → Walk
+withSort w sort = record { held = w .held + 1; sorts = w .sorts * 2 + sort; gate = w .gate; picking = w .picking; known = w .known; names = w .names }
 
 -- ---- steps of the walk
 

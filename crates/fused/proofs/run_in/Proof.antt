@@ -127,7 +127,7 @@ add-refused : tie.Need-add-refused Inv-loop μ-loop Inv-code μ-code
 add-refused c = omega (arith, stretched (c .before .before .before .before .before .before .before .before .before .before .before .before .before .before) .few, c .before .before .before .before .before .before .before .before .before .if4 .left, c .before .before .before .before .before .before .before .before .before .before .before .before .before .before .before .before .before .before .before .before .before .before .before .before .before .before .before .before .before .before .before .before .good .0)
 
 refused-requires : tie.Need-refused-requires Inv-loop μ-loop Inv-code μ-code
-refused-requires c κs = leapt-refused (stretched (c .before .before .before .before .before .before .before .before .before .before .before .before .before .before)) _ _ (c .before .before .before .before .before .before .advance-ahead .result) _ _ (c .before .before .before .before .before .before .advance-ahead .ensures) (c .before .before .m2 .given .1) .small
+refused-requires c κs = leapt-refused (stretched (c .before .before .before .before .before .before .before .before .before .before .before .before .before .before)) _ _ (c .before .before .before .before .before .before .advance-ahead .result) _ _ (c .before .before .before .before .before .before .advance-ahead .ensures) (c .before .before .m2 .given .1) .stride .small
 
 returns-3 : tie.Need-returns-3 Inv-loop μ-loop Inv-code μ-code
 returns-3 c =

@@ -4,9 +4,9 @@ use mathlib.Core.Bool.{Bool, true, false}
 use mathlib.Core.Logic.{_⊎_}
 use mathlib.Core.Option.{some}
 use mathlib.Core.List.{List, _∷_}
-use Prim.Native.Nat.{ℕ, _+_, _*_, _≤_, _<_}
+use Prim.Native.Nat.{ℕ, _+_, _≤_, _<_}
 use lib.IntN.{ℤ}
-use lib.ListN.{length}
+use lib.ListN.{length, getD}
 use Rattle.limits.specs.Limits.{stackLimit}
 use Rattle.arith.specs.Values.{ok}
 use Rattle.semantics.specs.Formula.{State}
@@ -15,8 +15,8 @@ use Rattle.leb128.specs.Numbers.{got, unzigzag}
 use Rattle.bytecode.specs.Instructions.{Instruction, constant, instructionOf, hasOperand, fetchOne}
 use Rattle.bytecode.specs.Check.{advance}
 use Rattle.checker.specs.declared.advance.Walk.{Walk}
-use Rattle.checker.specs.Inner.Walk.{knownOf, pushed, Small}
-use Rattle.checker.specs.Inner.Stretches.{withNumber}
+use Rattle.checker.specs.Inner.Walk.{knownOf, pushed}
+use Rattle.checker.specs.Inner.Stretches.{withNumber, withSort}
 use Rattle.machine.specs.Step.{machine, push, perform, isPick}
 use Rattle.fused.specs.declared.Progress.{Progress}
 use Rattle.fused.specs.declared.Moved.{Moved}
@@ -29,13 +29,9 @@ use Rattle.fused.specs.declared.ahead.Skipped.{Skipped}
 use Rattle.fused.specs.declared.ahead.Skipped.the-variants as K
 use Rattle.fused.specs.declared.ahead.Settled.{Settled}
 use Rattle.fused.specs.declared.ahead.Settled.the-variants as T
-use Rattle.fused.specs.Inner.Passes.{Ready, Moves, Refuses, BreaksAt}
+use Rattle.fused.specs.Inner.Passes.{Ready, Strides, Moves, Refuses, BreaksAt}
 
 -- ---- what stands ahead
-
--- the walk with one value more, of a sort
-abbrev pub withSort : Walk → ℕ → Walk
-withSort w sort = record { held = w .held + 1; sorts = w .sorts * 2 + sort; gate = w .gate; picking = w .picking; known = w .known; names = w .names }
 
 -- An instruction, by its code byte, that has no operand and makes v, of a sort, of the two numbers held last; the walk lets it pass.
 pub record MadeOf (w : Walk) (byte : ℕ) (a b v : ℤ) (sort : ℕ) : Type 0 where
@@ -54,19 +50,14 @@ FoundBy w byte a b N.Other = Unit {0}
 pub record PairSeen (code : List ℕ) (prev cur : List ℤ) (at : ℕ) (w : Walk) (v : ℤ) (sort : ℕ) : Type 0 where
   pub loading : Instruction
   pub x : ℤ
-  pub operand : ℕ
-  pub acting : Instruction
   pub first : fetchOne code at ≡ got loading (at + 2)
-  pub second : fetchOne code (at + 2) ≡ got (constant (unzigzag operand)) (at + 4)
-  pub third : fetchOne code (at + 4) ≡ got acting (at + 5)
+  pub second : fetchOne code (at + 2) ≡ got (constant (unzigzag (getD code (at + 3) 0))) (at + 4)
   pub inside : at + 5 ≤ length code
-  pub short : operand < 128
+  pub short : getD code (at + 3) 0 < 128
   pub room : w .held + 2 ≤ stackLimit
-  pub sort-low : sort < 2
   pub admitted : advance loading (knownOf w) ≡ pushed (knownOf w)
   pub loaded : (ns : Setting) (c : Bool) (vs : List ℤ) → length (ns .ranges) ≡ w .names → perform ns prev loading c vs cur ≡ push x c vs cur
-  pub moved : advance acting (knownOf (withNumber (withNumber w))) ≡ some (knownOf (withSort w sort))
-  pub worked : (ns : Setting) (s t : State) (c : Bool) (vs : List ℤ) → perform ns s acting c (unzigzag operand ∷ x ∷ vs) t ≡ ok (machine false c (v ∷ vs) t)
+  pub made : MadeOf w (getD code (at + 4) 0) x (unzigzag (getD code (at + 3) 0)) v sort
 
 abbrev pub SeenBy : List ℕ → List ℤ → List ℤ → ℕ → Walk → Seen → Type 0
 SeenBy code prev cur at w (N.Value v sort) = PairSeen code prev cur at w v sort
@@ -80,14 +71,9 @@ withHeld w held = record { held = held; sorts = w .sorts; gate = w .gate; pickin
 
 -- an instruction that is no pick, by which the walk moves
 pub record Skips (code : List ℕ) (w : Walk) (at : ℕ) (k : Walk) (next : ℕ) : Type 0 where
-  pub instruction : Instruction
-  pub fetched : fetchOne code at ≡ got instruction next
-  pub inside : next ≤ length code
-  pub advanced : advance instruction (knownOf w) ≡ some (knownOf k)
-  pub small : Small k
-  pub no-pick : isPick instruction ≡ false
+  pub stride : Strides code w at k next
+  pub no-pick : isPick (stride .instruction) ≡ false
   pub same-gate : k .gate ≡ w .gate
-  pub same-names : k .names ≡ w .names
 
 abbrev pub SkippedBy : List ℕ → Walk → ℕ → ℕ → Skipped → Type 0
 SkippedBy code w held at (K.Over more next) = Skips code (withHeld w held) at (withHeld w more) next

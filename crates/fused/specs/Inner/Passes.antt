@@ -61,15 +61,19 @@ pub record Ready (low high prev cur vals : List ℤ) (b : Progress) : Type 0 whe
 abbrev pub BreaksAt : List ℕ → Progress → Type 0
 BreaksAt code b = BreaksUnlessTimed code (b .at) (knownOf (b .walk))
 
+-- the walk lets the instruction at a place pass, with another behind it
+pub record Strides (code : List ℕ) (w : Walk) (at : ℕ) (k : Walk) (next : ℕ) : Type 0 where
+  pub instruction : Instruction
+  pub fetched : fetchOne code at ≡ got instruction next
+  pub inside : next ≤ length code
+  pub advanced : advance instruction (knownOf w) ≡ some (knownOf k)
+  pub small : Small k
+
 -- the instruction at hand is passed over: the walk moves, and passing over ends at a pick
 pub record Passes (code : List ℕ) (b k : Progress) : Type 0 where
-  pub instruction : Instruction
-  pub fetched : fetchOne code (b .at) ≡ got instruction (k .at)
-  pub inside : k .at ≤ length code
-  pub advanced : advance instruction (knownOf (b .walk)) ≡ some (knownOf (k .walk))
-  pub small : Small (k .walk)
+  pub stride : Strides code (b .walk) (b .at) (k .walk) (k .at)
   pub same-picked : k .picked ≡ b .picked
-  pub passing-is : k .passing ≡ not (isPick instruction)
+  pub passing-is : k .passing ≡ not (isPick (stride .instruction))
 
 abbrev pub PassesBy : List ℕ → Progress → Moved → Type 0
 PassesBy code b (M.On k) = Passes code b k
@@ -78,22 +82,14 @@ PassesBy code b M.Broken = BreaksAt code b
 
 -- the walk moves, and the machine does the instruction, passed over or not
 pub record Moves (code : List ℕ) (low high prev : List ℤ) (b : Progress) (vals cur vals₁ cur₁ : List ℤ) (k : Progress) : Type 0 where
-  pub instruction : Instruction
-  pub fetched : fetchOne code (b .at) ≡ got instruction (k .at)
-  pub inside : k .at ≤ length code
-  pub advanced : advance instruction (knownOf (b .walk)) ≡ some (knownOf (k .walk))
-  pub small : Small (k .walk)
-  pub acted : (ns : Setting) → RangesIn (ns .ranges) low high → step ns prev instruction (machineOf (registersOf b) vals cur) ≡ ok (machineOf (registersOf k) vals₁ cur₁)
+  pub stride : Strides code (b .walk) (b .at) (k .walk) (k .at)
+  pub acted : (ns : Setting) → RangesIn (ns .ranges) low high → step ns prev (stride .instruction) (machineOf (registersOf b) vals cur) ≡ ok (machineOf (registersOf k) vals₁ cur₁)
   pub opened : k .passing ≡ true → openOf (k .walk .gate) ≡ true
 
 -- the walk moves, and the machine refuses the instruction
 pub record Refuses (code : List ℕ) (low high prev : List ℤ) (b : Progress) (vals cur : List ℤ) (k : Progress) (number : ℕ) : Type 0 where
-  pub instruction : Instruction
-  pub fetched : fetchOne code (b .at) ≡ got instruction (k .at)
-  pub inside : k .at ≤ length code
-  pub advanced : advance instruction (knownOf (b .walk)) ≡ some (knownOf (k .walk))
-  pub small : Small (k .walk)
-  pub acted : (ns : Setting) → RangesIn (ns .ranges) low high → step ns prev instruction (machineOf (registersOf b) vals cur) ≡ refusal number
+  pub stride : Strides code (b .walk) (b .at) (k .walk) (k .at)
+  pub acted : (ns : Setting) → RangesIn (ns .ranges) low high → step ns prev (stride .instruction) (machineOf (registersOf b) vals cur) ≡ refusal number
 
 abbrev pub MovesBy : List ℕ → List ℤ → List ℤ → List ℤ → Progress → List ℤ → List ℤ → List ℤ → List ℤ → Moved → Type 0
 MovesBy code low high prev b vals cur vals₁ cur₁ (M.On k) = Moves code low high prev b vals cur vals₁ cur₁ k

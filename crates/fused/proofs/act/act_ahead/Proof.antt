@@ -24,7 +24,7 @@ add-k-2 : tie.Need-add-k-2
 add-k-2 c =
     let a = c .before .before .before .before .before .before .before .before .args in
     let s = subst (λ x. SeenBy (a .code .now) (a .prev .now) (a .cur .now) (a .b .at) (a .b .walk) x) (c .before .before .before .v .given .1) (c .before .before .before .before .before .pair-ahead .ensures) in
-    record { fits = omega (arith, s .sort-low, below-40 _ _ (c .before .before .before .before .before .before .before .before .pre .0 .small .few-held) (c .before .before .before .before .before .before .before .before .pre .0 .small .sorts-low)) }
+    record { fits = omega (arith, s .made .sort-low, below-40 _ _ (c .before .before .before .before .before .before .before .before .pre .0 .small .few-held) (c .before .before .before .before .before .before .before .before .pre .0 .small .sorts-low)) }
 
 returns-2 : tie.Need-returns-2
 returns-2 c =

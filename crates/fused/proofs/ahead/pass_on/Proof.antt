@@ -4,7 +4,7 @@ use native.Mathlib.Omega.{arith}
 use borrow.Author.Needs.{needs}
 use Rattle.checker.specs.Inner.Walk.{openOf}
 use Rattle.fused.specs.Inner.Leaps.{withHeld}
-use Rattle.fused.proofs.Joining.{same-names}
+use Rattle.fused.proofs.Joining.{names-stay}
 use Rattle.fused.proofs.Skipping.{skips-far, skips-some, skips-kept, over-goes, over-pick, over-settle, passed-as, breaks-here, settled-as}
 use Rattle.fused.proofs.ahead.pass_on.Statement.{statement}
 use Rattle.fused.proofs.ahead.pass_on.Tie as tie
@@ -22,9 +22,8 @@ pass-requires c κs =
 
 settle-ahead-requires : tie.Need-settle-ahead-requires
 settle-ahead-requires c κs =
-    let kept = skips-kept (c .before .before .before .before .before .before .before .before .before .before .args .code .now) (c .before .before .before .before .before .before .before .before .before .before .args .b .walk) (c .before .before .before .before .before .before .before .before .before .before .args .b .at) (c .before .before .before .before .before .before .before .before .before .before .pre .0 .0) _ _ _ (c .before .before .before .before .before .before .before .skip .ensures) in
     let p = passed-as _ _ (c .before .before .before .before .pass .result) _ (c .before .before .before .before .pass .ensures) (c .before .before .q .given .1) in
-    (p .small, omega (arith, same-names (p .instruction) (withHeld (c .before .before .before .before .before .before .before .before .before .before .args .b .walk) (c .before .before .before .before .before .before .before .skip .result .held)) (c .before .before .q .given .0 .0 .walk) (kept .0) (p .advanced), c .before .before .before .before .before .before .before .before .before .before .pre .1 .0), c .before .before .before .before .before .before .before .before .before .before .pre .1 .1)
+    (p .stride .small, omega (arith, names-stay (p .stride .instruction) (withHeld (c .before .before .before .before .before .before .before .before .before .before .args .b .walk) (c .before .before .before .before .before .before .before .skip .result .held)) (c .before .before .q .given .0 .0 .walk) (p .stride .advanced), c .before .before .before .before .before .before .before .before .before .before .pre .1 .0), c .before .before .before .before .before .before .before .before .before .before .pre .1 .1)
 
 add-t20 : tie.Need-add-t20
 add-t20 c = omega (arith, skips-far (c .before .before .before .before .before .before .before .before .before .before .before .before .before .before .before .args .code .now) (c .before .before .before .before .before .before .before .before .before .before .before .before .before .before .before .args .b .walk) (c .before .before .before .before .before .before .before .before .before .before .before .before .before .before .before .args .b .at) _ _ _ (c .before .before .before .before .before .before .before .before .before .before .before .before .skip .ensures), c .before .before .before .before .before .before .before .before .before .before .if1 .left, c .before .before .before .before .before .before .before .before .before .before .before .before .before .before .before .good .0)

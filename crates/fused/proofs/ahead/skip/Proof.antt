@@ -24,7 +24,7 @@ add-steps c = omega (arith, skips-far (c .before .before .before .before .before
 loop-less : tie.Need-loop-less Inv-loop μ-loop
 loop-less c =
     let s = skipped (c .before .before .before .before .before .before .before .before .before .args .code .now) (c .before .before .before .before .before .before .before .before .before .args .w) _ _ (c .before .before .before .skip-one .result) _ _ (c .before .before .before .skip-one .ensures) (c .before .more .given .1) in
-    omega (arith, one-next (c .before .before .before .before .before .before .before .before .before .args .code .now) _ (s .instruction) _ (s .fetched) .1, c .before .before .before .before .loop-test .taken)
+    omega (arith, one-next (c .before .before .before .before .before .before .before .before .before .args .code .now) _ (s .stride .instruction) _ (s .stride .fetched) .1, c .before .before .before .before .loop-test .taken)
 
 loop-again : tie.Need-loop-again Inv-loop μ-loop
 loop-again c = further _ _ _ _ _ (c .before .before .before .before .before .loop .inv) (skipped (c .before .before .before .before .before .before .before .before .before .args .code .now) (c .before .before .before .before .before .before .before .before .before .args .w) _ _ (c .before .before .before .skip-one .result) _ _ (c .before .before .before .skip-one .ensures) (c .before .more .given .1))
