@@ -18,15 +18,12 @@ use Rattle.lexer.specs.Names.{tableNames, idOf}
 use Rattle.semantics.specs.Program.{Program, Timer, rangesOf, firstTimer, EachTimer, TimerFits, WellFormed}
 use Rattle.semantics.specs.Shape.{shapeOf, isLimit, hasTimer, rowLength}
 use Rattle.semantics.proofs.Timers.{timer-behind}
-use Rattle.grammar.specs.Parsed.{Parsed, accepted, refused}
+use Rattle.grammar.specs.Parsed.{accepted, refused}
 use Rattle.grammar.specs.Parse.{parse, programOf}
 use Rattle.grammar.proofs.Bytes.{id-of}
 use Rattle.grammar.proofs.Accepted.{parse-translatable, parse-few}
 use Rattle.grammar.proofs.PlacesText.{Placed, parse-limited}
-use Rattle.translate.specs.declared.Analysis.{Analysis}
-use Rattle.translate.specs.declared.Analysis.the-variants as N
-use Rattle.translate.specs.Inner.Descent.{HeaderCounts, measuresOf, analysed, measured, Analyses}
-use Rattle.translate.proofs.Service.{measured-refused}
+use Rattle.translate.specs.Inner.Descent.{AnalysedText}
 use Rattle.expressions.proofs.Scopes.{names-length}
 use Rattle.clock.specs.declared.Filled.the-variants as F
 use Rattle.clock.specs.Clock.{Entry, entriesOf, isMinute, isTable, localAt, dayOf, minuteOf, againOf}
@@ -82,31 +79,21 @@ pub record Read (text starts ends : List ℕ) (inputs timers : ℕ) : Type 0 whe
   pub few : inputs ≤ nameLimit
   pub spelled : tableNames text starts ends inputs ≡ inputsOf program
 
-measured-inputs : (y : Parsed Program) (size inputs names timers : ℕ) → measured y ≡ A.accepted (record { end = size; inputs = inputs; names = names; timers = timers }) → (q : Program) × (n : ℕ) × (y ≡ accepted q n) × (inputs ≡ q .inputs) × (timers ≡ length (q .timers))
-measured-inputs (accepted q n) size inputs names timers e =
-    let c : measuresOf q ≡ record { end = size; inputs = inputs; names = names; timers = timers } = cc in
-    (q, n, refl, sym (ap {A = HeaderCounts} (λ z. z .inputs) c), sym (ap {A = HeaderCounts} (λ z. z .timers) c))
-measured-inputs (refused i j) size inputs names timers e = let z : _≡_ {A = ℕ} 0 1 = cc in let f : ⊥ = omega arith in absurd f
-
-module _ (text starts ends : List ℕ) (r : Analysis) (a : Analyses text (parse text) starts ends r) where
-  pub read-text : (size inputs names timers : ℕ) → r ≡ N.Accepted size inputs names timers → Read text starts ends inputs timers
-  read-text size inputs names timers e =
-      let x = measured-inputs (parse text) size inputs names timers (sym (a .answer) ∙ ap analysed e) in
-      let q = x .0 in
-      let h : q .inputs ≤ length (q .names) = subst (λ (n : ℕ). q .inputs ≤ n) (length-map (q .names) (λ n. n .range)) (parse-translatable text q (x .1) (x .2) .well-formed .inputs-fit) in
-      let f = parse-few text q (x .1) (x .2) in
-      record {
-        program = q;
-        end = x .1;
-        parsed = x .2;
-        counted = x .3;
-        sized = ap₂ rowFor (x .3) (x .4) ∙ sym (row-length q (parse-translatable text q (x .1) (x .2) .well-formed));
-        few = omega (arith, x .3);
-        spelled = ap (tableNames text starts ends) (x .3) ∙ (names-take text starts ends (q .inputs) (length (q .names)) h ∙ ap (take (q .inputs)) (a .named q (x .1) (x .2) .spelled));
-      }
-
-  pub refused-text : (k x : ℕ) → r ≡ N.Refused k x → parse text ≡ refused k x
-  refused-text k x e = measured-refused (parse text) k x (sym (a .answer) ∙ ap analysed e)
+pub read-text : {text starts ends : List ℕ} {size inputs names timers at count : ℕ} → AnalysedText text (parse text) starts ends size inputs names timers at count → Read text starts ends inputs timers
+read-text {text} {starts} {ends} x =
+    let q = x .program in
+    let formed = parse-translatable text q (x .end) (x .parsed) .well-formed in
+    let h : q .inputs ≤ length (q .names) = subst (λ (n : ℕ). q .inputs ≤ n) (length-map (q .names) (λ n. n .range)) (formed .inputs-fit) in
+    let f = parse-few text q (x .end) (x .parsed) in
+    record {
+      program = q;
+      end = x .end;
+      parsed = x .parsed;
+      counted = x .inputs-are;
+      sized = ap₂ rowFor (x .inputs-are) (x .timed) ∙ sym (row-length q formed);
+      few = omega (arith, x .inputs-are);
+      spelled = ap (tableNames text starts ends) (x .inputs-are) ∙ (names-take text starts ends (q .inputs) (length (q .names)) h ∙ ap (take (q .inputs)) (x .held .spelled));
+    }
 
 -- ---- the row
 

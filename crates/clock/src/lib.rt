@@ -87,7 +87,7 @@ fn fill_in(
 {
     let analysis = translate::analyse(text, starts, ends);
     match analysis {
-        Analysis::Accepted(_, inputs, _, timers) => {
+        Analysis::Accepted(_, inputs, _, timers, _, _) => {
             if !local::is_table(table) {
                 return Filled::Refused(limits::BROKEN_TABLE, 0);
             }

@@ -5,7 +5,7 @@ ghost use Prim.Native.Nat.{_<_, _≤_, _^_};
 ghost use lib.IntN.{negsuc, _-ℤ_};
 ghost use lib.Signed.{leZ, ltZ, mag};
 ghost use Rattle.arith.specs.Values.{eqZ};
-ghost use Rattle.clock.specs.Clock.{entriesOf, isMinute, entryFits, entriesFit, isTable, offsetAt, localAt, dayOf, minuteOf, isAgain, againOf};
+ghost use Rattle.clock.specs.Clock.{entriesOf, isMinute, entryFits, entriesFit, isTable, offsetAt, localAt, dayOf, minuteOf, againOf};
 ghost use Rattle.clock.specs.Inner.Numbers.{SmallNumbers};
 
 const DAY: i64 = 1440;
@@ -125,27 +125,17 @@ fn repeats(table: &[i64], utc: i64, local: i64, offset: i64) -> bool
     false
 }
 
-fn is_again(table: &[i64], utc: i64, local: i64) -> bool
-    requires { ⌜ SmallNumbers (entriesOf (now table)) × (mag local < 2 ^ 41) × (local ≡ localAt (entriesOf (now table)) utc) ⌝ }
-    ensures { λ r. ⌜ r ≡ isAgain (entriesOf (now (table .entry))) utc ⌝ }
-{
-    let mut i = 0;
-    while i + 1 < table.len() {
-        if repeats(table, utc, local, table[i + 1]) {
-            return true;
-        }
-        i += 2;
-    }
-    false
-}
-
 // 1 where an earlier minute has this local time.
 pub fn again_of(table: &[i64], utc: i64, local: i64) -> i32
     requires { ⌜ SmallNumbers (entriesOf (now table)) × (mag local < 2 ^ 41) × (local ≡ localAt (entriesOf (now table)) utc) ⌝ }
     ensures { λ r. ⌜ r ≡ againOf (entriesOf (now (table .entry))) utc ⌝ }
 {
-    if is_again(table, utc, local) {
-        return 1;
+    let mut i = 0;
+    while i + 1 < table.len() {
+        if repeats(table, utc, local, table[i + 1]) {
+            return 1;
+        }
+        i += 2;
     }
     0
 }

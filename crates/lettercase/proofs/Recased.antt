@@ -4,60 +4,48 @@ use mathlib.Core.List.{List, [], _∷_, _++_, map}
 use Prim.Native.Nat.{ℕ, _-_}
 use native.Mathlib.Omega.{arith}
 use lib.ListN.{length}
-use Rattle.semantics.specs.Program.{Range, Name, Program, knownFirst, OrderedRules, Numbered, EachTimer, TimerFits}
+use Rattle.semantics.specs.Program.{Range, Name, Program}
 use Rattle.lexer.specs.Bytes.{capitals}
 use Rattle.lexer.specs.Token.{kindNumber, inputWord, varWord, is, spellingOf}
 use Rattle.lexer.specs.Lexer.{sameName}
 use Rattle.lexer.specs.Spelling.{Separated}
 use Rattle.bytecode.specs.Translation.{imageOf}
 use Rattle.grammar.specs.Derivation.{Tokens, asWritten, normal, normals, Spells}
-use Rattle.grammar.specs.Spelled.{DeclareTimers, Apart, Distinct, SpellsRules, SpellsWatches, namesOf, Spelled}
+use Rattle.grammar.specs.Spelled.{DeclareTimers, Apart, Distinct, namesOf, Spelled}
 use Rattle.grammar.proofs.Standing.{spells-append, normally}
 use Rattle.grammar.proofs.ConverseText.{accepted-exactly}
 use Rattle.lettercase.specs.Lettercase.{Recased, SameProgram, CaseIgnored}
-use Rattle.lettercase.proofs.RecasedNames.{written-seen, seen-written, spells-recased, Plain, SameNames, parted, all-too, timers-too}
+use Rattle.lettercase.proofs.RecasedNames.{written-seen, seen-written, spells-recased, Plain, SameNames, none, more, parted, all-too, timers-too}
 
 -- ---- what the same names have in common
 
-same-append : (a b c d : List Name) → SameNames a b → SameNames c d → SameNames (a ++ c) (b ++ d)
-same-append [] [] c d h g = g
-same-append [] (x ∷ b) c d h g = absurd h
-same-append (y ∷ a) [] c d h g = absurd h
-same-append (y ∷ a) (x ∷ b) c d h g = (h .0, h .1, h .2, same-append a b c d (h .3) g)
+same-append : {a b c d : List Name} → SameNames a b → SameNames c d → SameNames (a ++ c) (b ++ d)
+same-append none g = g
+same-append (more y x k l e f q h) g = more _ _ _ _ e f q (same-append h g)
 
-same-count : (k l : List Name) → SameNames k l → length k ≡ length l
-same-count [] [] h = refl
-same-count [] (x ∷ l) h = absurd h
-same-count (y ∷ k) [] h = absurd h
-same-count (y ∷ k) (x ∷ l) h = let r = same-count k l (h .3) in omega arith
+same-count : {k l : List Name} → SameNames k l → length k ≡ length l
+same-count none = refl
+same-count (more y x k l e f q h) = let r = same-count h in omega arith
 
-ranges-same : (k l : List Name) → SameNames k l → map (λ n. n .range) k ≡ map (λ n. n .range) l
-ranges-same [] [] h = refl
-ranges-same [] (x ∷ l) h = absurd h
-ranges-same (y ∷ k) [] h = absurd h
-ranges-same (y ∷ k) (x ∷ l) h = ap₂ (λ (r : Range) (m : List Range). r ∷ m) (h .0) (ranges-same k l (h .3))
+ranges-same : {k l : List Name} → SameNames k l → map (λ n. n .range) k ≡ map (λ n. n .range) l
+ranges-same none = refl
+ranges-same (more y x k l e f q h) = ap₂ (λ (r : Range) (m : List Range). r ∷ m) e (ranges-same h)
 
-normals-same : (k l : List Name) → SameNames k l → normals (map (λ n. n .spelling) k) ≡ normals (map (λ n. n .spelling) l)
-normals-same [] [] h = refl
-normals-same [] (x ∷ l) h = absurd h
-normals-same (y ∷ k) [] h = absurd h
-normals-same (y ∷ k) (x ∷ l) h = ap₂ (λ (w : List ℕ) (m : Tokens). w ∷ m) (h .1) (normals-same k l (h .3))
+normals-same : {k l : List Name} → SameNames k l → normals (map (λ n. n .spelling) k) ≡ normals (map (λ n. n .spelling) l)
+normals-same none = refl
+normals-same (more y x k l e f q h) = ap₂ (λ (w : List ℕ) (m : Tokens). w ∷ m) f (normals-same h)
 
 same-both : (a b c d : List ℕ) → capitals a ≡ capitals b → capitals c ≡ capitals d → sameName a c ≡ sameName b d
 unfolding sameName
 same-both a b c d e f = rw (e, f)
 
-apart-too : (v w : List ℕ) → capitals v ≡ capitals w → (k l : List Name) → SameNames k l → Apart w (map (λ n. n .spelling) l) → Apart v (map (λ n. n .spelling) k)
-apart-too v w e [] [] h a = tt
-apart-too v w e [] (x ∷ l) h a = absurd h
-apart-too v w e (y ∷ k) [] h a = absurd h
-apart-too v w e (y ∷ k) (x ∷ l) h a = (same-both v w (y .spelling) (x .spelling) e (h .2) ∙ a .0, apart-too v w e k l (h .3) (a .1))
+apart-too : (v w : List ℕ) → capitals v ≡ capitals w → {k l : List Name} → SameNames k l → Apart w (map (λ n. n .spelling) l) → Apart v (map (λ n. n .spelling) k)
+apart-too v w c none a = tt
+apart-too v w c (more y x k l e f q h) a = (same-both v w (y .spelling) (x .spelling) c q ∙ a .0, apart-too v w c h (a .1))
 
-distinct-too : (k l : List Name) → SameNames k l → Distinct (map (λ n. n .spelling) l) → Distinct (map (λ n. n .spelling) k)
-distinct-too [] [] h d = tt
-distinct-too [] (x ∷ l) h d = absurd h
-distinct-too (y ∷ k) [] h d = absurd h
-distinct-too (y ∷ k) (x ∷ l) h d = (apart-too (y .spelling) (x .spelling) (h .2) k l (h .3) (d .0), distinct-too k l (h .3) (d .1))
+distinct-too : {k l : List Name} → SameNames k l → Distinct (map (λ n. n .spelling) l) → Distinct (map (λ n. n .spelling) k)
+distinct-too none d = tt
+distinct-too (more y x k l e f q h) d = (apart-too (y .spelling) (x .spelling) q h (d .0), distinct-too h (d .1))
 
 -- ---- the claim
 
@@ -81,20 +69,20 @@ spelled-too text other p c s =
     let back = s .rule-tokens ++ s .watch-tokens in
     let whole : Spells normal text 0 (s .end) (normals front ++ back) = spells-append normally text 0 (s .rules-from) (s .end) (normals front) back declared (s .spells-tokens) in
     let w = seen-written other 0 (s .rules-from) (normals front) (spells-recased text other c [] 0 (s .rules-from) (normals front) refl declared) in
-    let both = parted inputWord input-plain (w .tokens) (s .input-tokens ++ s .variable-tokens) (s .timer-tokens) (w .spelt) (w .seen) in
-    let t = parted inputWord input-plain (both .front) (s .input-tokens) (s .variable-tokens) (both .spelt-front) (both .seen-front) in
+    let both = parted (w .tokens) (s .input-tokens ++ s .variable-tokens) (s .timer-tokens) (w .spelt) (w .seen) in
+    let t = parted (both .front) (s .input-tokens) (s .variable-tokens) (both .spelt-front) (both .seen-front) in
     let i = all-too inputWord input-plain (s .input-tokens) (s .inputs) (s .declares-inputs) (t .front) (t .spelt-front) (t .seen-front) in
     let v = all-too varWord variable-plain (s .variable-tokens) (s .variables) (s .declares-variables) (t .back) (t .spelt-back) (t .seen-back) in
     let o = timers-too (normals (map (λ n. n .spelling) (s .inputs ++ s .variables))) (s .timer-tokens) (s .timer-names) (p .timers) (s .declares-timers) (both .back) (both .spelt-back) (both .seen-back) in
     let base = i .others ++ v .others in
-    let same-base : SameNames base (s .inputs ++ s .variables) = same-append (i .others) (s .inputs) (v .others) (s .variables) (i .same) (v .same) in
+    let same-base : SameNames base (s .inputs ++ s .variables) = same-append (i .same) (v .same) in
     let k = base ++ o .others in
-    let same : SameNames k (s .inputs ++ s .variables ++ s .timer-names) = same-append base (s .inputs ++ s .variables) (o .others) (s .timer-names) same-base (o .same) in
+    let same : SameNames k (s .inputs ++ s .variables ++ s .timer-names) = same-append same-base (o .same) in
     let same-p : SameNames k (p .names) = subst (SameNames k) (sym (s .names)) same in
-    let ranges : map (λ n. n .range) k ≡ map (λ n. n .range) (p .names) = ranges-same k (p .names) same-p in
-    let seen : normals (map (λ n. n .spelling) k) ≡ normals (namesOf p) = normals-same k (p .names) same-p in
-    let inputs : length (i .others) ≡ p .inputs = same-count (i .others) (s .inputs) (i .same) ∙ sym (s .input-count) in
-    let count = same-count k (p .names) same-p in
+    let ranges : map (λ n. n .range) k ≡ map (λ n. n .range) (p .names) = ranges-same same-p in
+    let seen : normals (map (λ n. n .spelling) k) ≡ normals (namesOf p) = normals-same same-p in
+    let inputs : length (i .others) ≡ p .inputs = same-count (i .same) ∙ sym (s .input-count) in
+    let count = same-count same-p in
     let few = s .few in
     let short = s .short in
     let long = c .as-long in
@@ -117,10 +105,10 @@ spelled-too text other p c s =
         timer-names = o .others;
         declares-inputs = i .declared;
         declares-variables = v .declared;
-        declares-timers = subst (λ (l : Tokens). DeclareTimers l (both .back) (o .others) (p .timers)) (sym (normals-same base (s .inputs ++ s .variables) same-base)) (o .declared);
+        declares-timers = subst (λ (l : Tokens). DeclareTimers l (both .back) (o .others) (p .timers)) (sym (normals-same same-base)) (o .declared);
         names = refl;
         input-count = refl;
-        distinct = distinct-too k (p .names) same-p (s .distinct);
+        distinct = distinct-too same-p (s .distinct);
         few = omega arith;
         spells-rules = rw seen (s .spells-rules);
         spells-watches = rw seen (s .spells-watches);

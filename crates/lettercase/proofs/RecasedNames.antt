@@ -111,32 +111,62 @@ rest-plain low high start l h s dl dh ds =
 -- ---- declarations
 
 -- names declared that are the same, with the same ranges
-abbrev pub SameNames : List Name → List Name → Type 0
-SameNames [] [] = Unit {0}
-SameNames [] (x ∷ l) = ⊥
-SameNames (y ∷ k) [] = ⊥
-SameNames (y ∷ k) (x ∷ l) = (y .range ≡ x .range) × (normal (y .spelling) ≡ normal (x .spelling)) × (capitals (y .spelling) ≡ capitals (x .spelling)) × SameNames k l
+pub data SameNames : List Name → List Name → Type 0 where
+  none : SameNames [] []
+  more : (y x : Name) (k l : List Name) → y .range ≡ x .range → normal (y .spelling) ≡ normal (x .spelling) → capitals (y .spelling) ≡ capitals (x .spelling) → SameNames k l → SameNames (y ∷ k) (x ∷ l)
 
-record DeclaredToo (word : List ℕ) (us : Tokens) (x : Name) : Type 0 where
+-- a name that declares, like x but for its spelling
+record NameToo (Declaring : Name → Type 0) (x : Name) : Type 0 where
   other : Name
-  declared : Declares word us other
+  declared : Declaring other
   range : other .range ≡ x .range
   seen : normal (other .spelling) ≡ normal (x .spelling)
   big : capitals (other .spelling) ≡ capitals (x .spelling)
+
+-- names that declare, like those of l
+pub record NamesToo (Declaring : List Name → Type 0) (l : List Name) : Type 0 where
+  pub others : List Name
+  pub declared : Declaring others
+  pub same : SameNames others l
+
+named-too : (w u : List ℕ) → IsName w → ((k : Kind) × Spelling k u) → normal u ≡ normal w → IsName u × (capitals u ≡ capitals w)
+named-too w u nm s e =
+    let sw : SpellsName w = record { is-word = nm .is-word; no-word = nm .no-word } in
+    let su : SpellsName u = same-token-kind name (s .0) w u sw (s .1) e in
+    let long : length u ≡ length w = sym (normal-length u) ∙ (ap length e ∙ normal-length w) in
+    let short = nm .short in
+    (record { is-word = su .is-word; short = omega arith; no-word = su .no-word }, sym (name-seen u su) ∙ (e ∙ name-seen w sw))
+
+-- tokens that are seen as two parts
+pub record Parted (us ts rest : Tokens) : Type 0 where
+  pub front : Tokens
+  pub back : Tokens
+  pub whole : us ≡ front ++ back
+  pub seen-front : normals front ≡ normals ts
+  pub seen-back : normals back ≡ normals rest
+  pub spelt-front : AllSpelt front
+  pub spelt-back : AllSpelt back
+
+pub parted : (us ts rest : Tokens) → AllSpelt us → normals us ≡ normals (ts ++ rest) → Parted us ts rest
+parted us [] rest g e = record { front = []; back = us; whole = refl; seen-front = refl; seen-back = e; spelt-front = tt; spelt-back = g }
+parted [] (t ∷ ts) rest g e = let z : _≡_ {A = ℕ} 0 1 = cc in absurd (omega arith)
+parted (u ∷ us) (t ∷ ts) rest g e =
+    let r = parted us ts rest (g .1) (tails e) in
+    record {
+      front = u ∷ r .front;
+      back = r .back;
+      whole = ap (λ (l : Tokens). u ∷ l) (r .whole);
+      seen-front = ap₂ (λ (x : List ℕ) (l : Tokens). x ∷ l) (heads e) (r .seen-front);
+      seen-back = r .seen-back;
+      spelt-front = (g .0, r .spelt-front);
+      spelt-back = r .spelt-back;
+    }
 
 module _ (kind : Kind) (plain : Plain (spellingOf kind)) where
   abbrev word : List ℕ
   word = spellingOf kind
 
-  named-too : (w u : List ℕ) → IsName w → ((k : Kind) × Spelling k u) → normal u ≡ normal w → IsName u × (capitals u ≡ capitals w)
-  named-too w u nm s e =
-      let sw : SpellsName w = record { is-word = nm .is-word; no-word = nm .no-word } in
-      let su : SpellsName u = same-token-kind name (s .0) w u sw (s .1) e in
-      let long : length u ≡ length w = sym (normal-length u) ∙ (ap length e ∙ normal-length w) in
-      let short = nm .short in
-      (record { is-word = su .is-word; short = omega arith; no-word = su .no-word }, sym (name-seen u su) ∙ (e ∙ name-seen w sw))
-
-  declares-too : (ts : Tokens) (x : Name) → Declares word ts x → (us : Tokens) → AllSpelt us → normals us ≡ normals ts → DeclaredToo word us x
+  declares-too : (ts : Tokens) (x : Name) → Declares word ts x → (us : Tokens) → AllSpelt us → normals us ≡ normals ts → NameToo (Declares word us) x
   declares-too ts x (declares w low high start r nm dl dh ds fits) [] g e = let z : _≡_ {A = ℕ} 0 1 = cc in absurd (omega arith)
   declares-too ts x (declares w low high start r nm dl dh ds fits) (v ∷ []) g e = let z : _≡_ {A = ℕ} 0 1 = cc in absurd (omega arith)
   declares-too ts x (declares w low high start r nm dl dh ds fits) (v ∷ u ∷ us) g e =
@@ -151,38 +181,8 @@ module _ (kind : Kind) (plain : Plain (spellingOf kind)) where
         big = n .1;
       }
 
-  pub record AllDeclared (us : Tokens) (l : List Name) : Type 0 where
-    pub others : List Name
-    pub declared : DeclareAll word us others
-    pub same : SameNames others l
-
-  -- tokens that are seen as two parts
-  pub record Parted (us ts rest : Tokens) : Type 0 where
-    pub front : Tokens
-    pub back : Tokens
-    pub whole : us ≡ front ++ back
-    pub seen-front : normals front ≡ normals ts
-    pub seen-back : normals back ≡ normals rest
-    pub spelt-front : AllSpelt front
-    pub spelt-back : AllSpelt back
-
-  pub parted : (us ts rest : Tokens) → AllSpelt us → normals us ≡ normals (ts ++ rest) → Parted us ts rest
-  parted us [] rest g e = record { front = []; back = us; whole = refl; seen-front = refl; seen-back = e; spelt-front = tt; spelt-back = g }
-  parted [] (t ∷ ts) rest g e = let z : _≡_ {A = ℕ} 0 1 = cc in absurd (omega arith)
-  parted (u ∷ us) (t ∷ ts) rest g e =
-      let r = parted us ts rest (g .1) (tails e) in
-      record {
-        front = u ∷ r .front;
-        back = r .back;
-        whole = ap (λ (l : Tokens). u ∷ l) (r .whole);
-        seen-front = ap₂ (λ (x : List ℕ) (l : Tokens). x ∷ l) (heads e) (r .seen-front);
-        seen-back = r .seen-back;
-        spelt-front = (g .0, r .spelt-front);
-        spelt-back = r .spelt-back;
-      }
-
-  pub all-too : (ts : Tokens) (l : List Name) → DeclareAll word ts l → (us : Tokens) → AllSpelt us → normals us ≡ normals ts → AllDeclared us l
-  all-too ts l S.DeclareAll.none [] g e = record { others = []; declared = S.DeclareAll.none; same = tt }
+  pub all-too : (ts : Tokens) (l : List Name) → DeclareAll word ts l → (us : Tokens) → AllSpelt us → normals us ≡ normals ts → NamesToo (DeclareAll word us) l
+  all-too ts l S.DeclareAll.none [] g e = record { others = []; declared = S.DeclareAll.none; same = none }
   all-too ts l S.DeclareAll.none (u ∷ us) g e = let z : _≡_ {A = ℕ} 0 1 = cc in absurd (omega arith)
   all-too ts l (S.DeclareAll.more vs ws x k d r) us g e =
       let p = parted us vs ws g e in
@@ -191,7 +191,7 @@ module _ (kind : Kind) (plain : Plain (spellingOf kind)) where
       record {
         others = y .other ∷ z .others;
         declared = subst (λ (t : Tokens). DeclareAll word t (y .other ∷ z .others)) (sym (p .whole)) (S.DeclareAll.more (p .front) (p .back) (y .other) (z .others) (y .declared) (z .declared));
-        same = (y .range, y .seen, y .big, z .same);
+        same = more _ _ _ _ (y .range) (y .seen) (y .big) (z .same);
       }
 
 -- ---- timers
@@ -209,43 +209,22 @@ first : (us : Tokens) (t : List ℕ) (ts : Tokens) → AllSpelt us → normals u
 first [] t ts g e = let z : _≡_ {A = ℕ} 0 1 = cc in absurd (omega arith)
 first (u ∷ us) t ts g e = record { head = u; tail = us; whole = refl; spelt = g .0; seen = heads e; spelt-tail = g .1; seen-tail = tails e }
 
-none-left : (us : Tokens) → normals us ≡ [] → us ≡ []
-none-left [] e = refl
-none-left (u ∷ us) e = let z : _≡_ {A = ℕ} 0 1 = cc in absurd (omega arith)
-
 both-same : {x y : List ℕ} {k l : Tokens} → x ≡ y → k ≡ l → x ∷ k ≡ y ∷ l
 both-same e f = ap₂ (λ (w : List ℕ) (m : Tokens). w ∷ m) e f
 
-timer-plain : Plain (spellingOf timerWord)
-unfolding is kindNumber
-timer-plain = (timerWord, refl, refl, refl)
-
-record TimerToo (ns us : Tokens) (t : Name) (x : Timer) : Type 0 where
-  other : Name
-  declared : DeclaresTimer ns us other x
-  range : other .range ≡ t .range
-  seen : normal (other .spelling) ≡ normal (t .spelling)
-  big : capitals (other .spelling) ≡ capitals (t .spelling)
-
-timer-too : (ns ts : Tokens) (t : Name) (x : Timer) → DeclaresTimer ns ts t x → (us : Tokens) → AllSpelt us → normals us ≡ normals ts → TimerToo ns us t x
+timer-too : (ns ts : Tokens) (t : Name) (x : Timer) → DeclaresTimer ns ts t x → (us : Tokens) → AllSpelt us → normals us ≡ normals ts → NameToo (λ o. DeclaresTimer ns us o x) t
 unfolding is kindNumber
 timer-too ns ts t x (declares-timer v w n y nv nw at dn l) us g e =
     let a = first us (bytes "timer") (v ∷ bytes "of" ∷ w ∷ bytes "limit" ∷ n ∷ bytes ";" ∷ []) g e in
     let b = first (a .tail) v (bytes "of" ∷ w ∷ bytes "limit" ∷ n ∷ bytes ";" ∷ []) (a .spelt-tail) (a .seen-tail) in
     let c = first (b .tail) (bytes "of") (w ∷ bytes "limit" ∷ n ∷ bytes ";" ∷ []) (b .spelt-tail) (b .seen-tail) in
     let d = first (c .tail) w (bytes "limit" ∷ n ∷ bytes ";" ∷ []) (c .spelt-tail) (c .seen-tail) in
-    let f = first (d .tail) (bytes "limit") (n ∷ bytes ";" ∷ []) (d .spelt-tail) (d .seen-tail) in
-    let h = first (f .tail) n (bytes ";" ∷ []) (f .spelt-tail) (f .seen-tail) in
-    let i = first (h .tail) (bytes ";") [] (h .spelt-tail) (h .seen-tail) in
     let timer = same-token-bytes timerWord (a .spelt .0) (bytes "timer") (a .head) refl (a .spelt .1) (a .seen) refl refl in
     let of-word = same-token-bytes ofWord (c .spelt .0) (bytes "of") (c .head) refl (c .spelt .1) (c .seen) refl refl in
-    let limit = same-token-bytes limitWord (f .spelt .0) (bytes "limit") (f .head) refl (f .spelt .1) (f .seen) refl refl in
-    let number = same-token-bytes digits (h .spelt .0) n (h .head) dn (h .spelt .1) (h .seen) refl refl in
-    let end = same-token-bytes semicolon (i .spelt .0) (bytes ";") (i .head) refl (i .spelt .1) (i .seen) refl refl in
-    let name-too = named-too timerWord timer-plain v (b .head) nv (b .spelt) (b .seen) in
-    let watched-too = named-too timerWord timer-plain w (d .head) nw (d .spelt) (d .seen) in
-    let back : f .tail ≡ n ∷ bytes ";" ∷ [] = h .whole ∙ both-same number (i .whole ∙ both-same end (none-left (i .tail) (i .seen-tail))) in
-    let whole : us ≡ timerForm (b .head) (d .head) n = a .whole ∙ both-same timer (b .whole ∙ both-same refl (c .whole ∙ both-same of-word (d .whole ∙ both-same refl (f .whole ∙ both-same limit back)))) in
+    let back = plains-same (bytes "limit" ∷ n ∷ bytes ";" ∷ []) (d .tail) ((limitWord, refl, refl, refl), ((digits, dn, refl, refl), ((semicolon, refl, refl, refl), tt))) (d .spelt-tail) (d .seen-tail) in
+    let name-too = named-too v (b .head) nv (b .spelt) (b .seen) in
+    let watched-too = named-too w (d .head) nw (d .spelt) (d .seen) in
+    let whole : us ≡ timerForm (b .head) (d .head) n = a .whole ∙ both-same timer (b .whole ∙ both-same refl (c .whole ∙ both-same of-word (d .whole ∙ both-same refl back))) in
     record {
       other = record { spelling = b .head; range = bitRange };
       declared = subst (λ (q : Tokens). DeclaresTimer ns q (record { spelling = b .head; range = bitRange }) x) (sym whole) (declares-timer (b .head) (d .head) n x (name-too .0) (watched-too .0) (at ∙ ap some (sym (d .seen))) dn l);
@@ -254,20 +233,15 @@ timer-too ns ts t x (declares-timer v w n y nv nw at dn l) us g e =
       big = name-too .1;
     }
 
-pub record TimersToo (ns us : Tokens) (l : List Name) (xs : List Timer) : Type 0 where
-  pub others : List Name
-  pub declared : DeclareTimers ns us others xs
-  pub same : SameNames others l
-
-pub timers-too : (ns ts : Tokens) (l : List Name) (xs : List Timer) → DeclareTimers ns ts l xs → (us : Tokens) → AllSpelt us → normals us ≡ normals ts → TimersToo ns us l xs
-timers-too ns ts l xs S.DeclareTimers.none [] g e = record { others = []; declared = S.DeclareTimers.none; same = tt }
+pub timers-too : (ns ts : Tokens) (l : List Name) (xs : List Timer) → DeclareTimers ns ts l xs → (us : Tokens) → AllSpelt us → normals us ≡ normals ts → NamesToo (λ o. DeclareTimers ns us o xs) l
+timers-too ns ts l xs S.DeclareTimers.none [] g e = record { others = []; declared = S.DeclareTimers.none; same = none }
 timers-too ns ts l xs S.DeclareTimers.none (u ∷ us) g e = let z : _≡_ {A = ℕ} 0 1 = cc in absurd (omega arith)
 timers-too ns ts l xs (S.DeclareTimers.more vs ws t k x ys d r) us g e =
-    let p = parted timerWord timer-plain us vs ws g e in
+    let p = parted us vs ws g e in
     let y = timer-too ns vs t x d (p .front) (p .spelt-front) (p .seen-front) in
     let z = timers-too ns ws k ys r (p .back) (p .spelt-back) (p .seen-back) in
     record {
       others = y .other ∷ z .others;
       declared = subst (λ (q : Tokens). DeclareTimers ns q (y .other ∷ z .others) (x ∷ ys)) (sym (p .whole)) (S.DeclareTimers.more (p .front) (p .back) (y .other) (z .others) x ys (y .declared) (z .declared));
-      same = (y .range, y .seen, y .big, z .same);
+      same = more _ _ _ _ (y .range) (y .seen) (y .big) (z .same);
     }

@@ -1,12 +1,13 @@
 // Fixed tokens of the rule forms: each is taken out of its answer, and a refusal is passed on.
 use lexer::Step;
 ghost use mathlib.Core.Path.{_≡_};
+ghost use mathlib.Core.List.{[], _∷_};
 ghost use Prim.Native.Nat.{_≤_};
 ghost use Rattle.lexer.specs.Bytes.{part};
 ghost use Rattle.lexer.specs.Results.{kindOf};
 ghost use Rattle.lexer.specs.Token.{lastKind};
 ghost use Rattle.grammar.specs.Parsed.{sign, own, ownPrevious, expected, phrase};
-ghost use Rattle.grammar.specs.Forms.{ruleOpening, formulaClosing, functionClosing, valueOpening, caseValueOpening, unchangedValue, changeOpening, noChangeOpening, turnedValue, turnedOpening, fallingOpening, watchOpening, laterOpening};
+ghost use Rattle.grammar.specs.Forms.{ruleOpening, formulaClosing, functionClosing, valueOpening, caseValueOpening, changeOpening, noChangeOpening, turnedValue, turnedOpening, fallingOpening, watchOpening, laterOpening};
 ghost use Rattle.phrases.specs.Inner.Steps.{parsedOf, nothing};
 
 // A token of a kind.
@@ -62,30 +63,42 @@ fn expect_previous(text: &[u8], at: usize, start: usize, end: usize) -> Step
     Step::Refused(limits::NOT_ALLOWED, token.start)
 }
 
+// Tokens of two kinds.
+fn two_signs(text: &[u8], at: usize, one: u32, two: u32) -> Step
+    requires { ⌜ (one ≤ lastKind) × (two ≤ lastKind) ⌝ }
+    ensures { λ r. ⌜ parsedOf nothing r ≡ phrase (now (text .entry)) (sign (kindOf one) ∷ sign (kindOf two) ∷ []) at ⌝ }
+{
+    let first = expect(text, at, one);
+    let Step::Done(a) = first else {
+        return first;
+    };
+    expect(text, a.at, two)
+}
+
+// Tokens of three kinds.
+fn three_signs(text: &[u8], at: usize, one: u32, two: u32, three: u32) -> Step
+    requires { ⌜ (one ≤ lastKind) × (two ≤ lastKind) × (three ≤ lastKind) ⌝ }
+    ensures { λ r. ⌜ parsedOf nothing r ≡ phrase (now (text .entry)) (sign (kindOf one) ∷ sign (kindOf two) ∷ sign (kindOf three) ∷ []) at ⌝ }
+{
+    let first = expect(text, at, one);
+    let Step::Done(a) = first else {
+        return first;
+    };
+    two_signs(text, a.at, two, three)
+}
+
 // After a rule's name: `: GX (`.
 pub fn rule_opening(text: &[u8], at: usize) -> Step
     ensures { λ r. ⌜ parsedOf nothing r ≡ phrase (now (text .entry)) ruleOpening at ⌝ }
 {
-    let first = expect(text, at, lexer::COLON);
-    let Step::Done(a) = first else {
-        return first;
-    };
-    let second = expect(text, a.at, lexer::GX);
-    let Step::Done(b) = second else {
-        return second;
-    };
-    expect(text, b.at, lexer::OPEN_ROUND)
+    three_signs(text, at, lexer::COLON, lexer::GX, lexer::OPEN_ROUND)
 }
 
 // The end of a formula: `) ;`.
 pub fn formula_closing(text: &[u8], at: usize) -> Step
     ensures { λ r. ⌜ parsedOf nothing r ≡ phrase (now (text .entry)) formulaClosing at ⌝ }
 {
-    let first = expect(text, at, lexer::CLOSE_ROUND);
-    let Step::Done(a) = first else {
-        return first;
-    };
-    expect(text, a.at, lexer::SEMICOLON)
+    two_signs(text, at, lexer::CLOSE_ROUND, lexer::SEMICOLON)
 }
 
 // The end of a function: `) ) ;`.
@@ -107,11 +120,7 @@ pub fn value_opening(text: &[u8], at: usize, start: usize, end: usize) -> Step
     let Step::Done(a) = first else {
         return first;
     };
-    let second = expect(text, a.at, lexer::EQUALS);
-    let Step::Done(c) = second else {
-        return second;
-    };
-    expect(text, c.at, lexer::OPEN_ROUND)
+    two_signs(text, a.at, lexer::EQUALS, lexer::OPEN_ROUND)
 }
 
 // Between the condition and the value of a case: `& w = (`.
@@ -125,15 +134,16 @@ pub fn case_value_opening(text: &[u8], at: usize, start: usize, end: usize) -> S
     value_opening(text, a.at, start, end)
 }
 
-// `w = _w`.
-fn unchanged_value(text: &[u8], at: usize, start: usize, end: usize) -> Step
-    ensures { λ r. ⌜ parsedOf nothing r ≡ phrase (now (text .entry)) (unchangedValue (part (now (text .entry)) start end)) at ⌝ }
+// `w = _w`, `w > _w` and `w < _w`: the sign is of a kind.
+fn own_values(text: &[u8], at: usize, start: usize, end: usize, kind: u32) -> Step
+    requires { ⌜ kind ≤ lastKind ⌝ }
+    ensures { λ r. ⌜ parsedOf nothing r ≡ phrase (now (text .entry)) (own (part (now (text .entry)) start end) ∷ sign (kindOf kind) ∷ ownPrevious (part (now (text .entry)) start end) ∷ []) at ⌝ }
 {
     let first = expect_name(text, at, start, end);
     let Step::Done(a) = first else {
         return first;
     };
-    let second = expect(text, a.at, lexer::EQUALS);
+    let second = expect(text, a.at, kind);
     let Step::Done(b) = second else {
         return second;
     };
@@ -148,15 +158,11 @@ pub fn change_opening(text: &[u8], at: usize, start: usize, end: usize) -> Step
     let Step::Done(a) = first else {
         return first;
     };
-    let second = unchanged_value(text, a.at, start, end);
+    let second = own_values(text, a.at, start, end, lexer::EQUALS);
     let Step::Done(b) = second else {
         return second;
     };
-    let third = expect(text, b.at, lexer::CLOSE_ROUND);
-    let Step::Done(c) = third else {
-        return third;
-    };
-    expect(text, c.at, lexer::ARROW)
+    two_signs(text, b.at, lexer::CLOSE_ROUND, lexer::ARROW)
 }
 
 // The end of a change formula and its no-change formula up to the list: `) ; w : GX ( w = _w -> ~ (`.
@@ -175,19 +181,11 @@ pub fn no_change_opening(text: &[u8], at: usize, start: usize, end: usize) -> St
     let Step::Done(c) = third else {
         return third;
     };
-    let fourth = unchanged_value(text, c.at, start, end);
+    let fourth = own_values(text, c.at, start, end, lexer::EQUALS);
     let Step::Done(d) = fourth else {
         return fourth;
     };
-    let fifth = expect(text, d.at, lexer::ARROW);
-    let Step::Done(e) = fifth else {
-        return fifth;
-    };
-    let sixth = expect(text, e.at, lexer::TILDE);
-    let Step::Done(f) = sixth else {
-        return sixth;
-    };
-    expect(text, f.at, lexer::OPEN_ROUND)
+    three_signs(text, d.at, lexer::ARROW, lexer::TILDE, lexer::OPEN_ROUND)
 }
 
 // `w > _w ->`, and `w < _w ->`: the sign is of a kind.
@@ -195,19 +193,11 @@ fn turned_value(text: &[u8], at: usize, start: usize, end: usize, kind: u32) -> 
     requires { ⌜ kind ≤ lastKind ⌝ }
     ensures { λ r. ⌜ parsedOf nothing r ≡ phrase (now (text .entry)) (turnedValue (kindOf kind) (part (now (text .entry)) start end)) at ⌝ }
 {
-    let first = expect_name(text, at, start, end);
+    let first = own_values(text, at, start, end, kind);
     let Step::Done(a) = first else {
         return first;
     };
-    let second = expect(text, a.at, kind);
-    let Step::Done(b) = second else {
-        return second;
-    };
-    let third = expect_previous(text, b.at, start, end);
-    let Step::Done(p) = third else {
-        return third;
-    };
-    expect(text, p.at, lexer::ARROW)
+    expect(text, a.at, lexer::ARROW)
 }
 
 // A formula of a pair after `w +` or `w -`: `: GX ( w > _w ->`.
@@ -249,15 +239,13 @@ pub fn watch_opening(text: &[u8], at: usize) -> Step
     let Step::Done(a) = colon else {
         return colon;
     };
-    let second = expect(text, a.at, lexer::ALWAYS);
-    let Step::Done(b) = second else {
-        return second;
-    };
-    let third = expect(text, b.at, lexer::OPEN_ROUND);
-    let Step::Done(c) = third else {
-        return third;
-    };
-    expect(text, c.at, lexer::OPEN_SQUARE)
+    three_signs(
+        text,
+        a.at,
+        lexer::ALWAYS,
+        lexer::OPEN_ROUND,
+        lexer::OPEN_SQUARE,
+    )
 }
 
 // After the `->` of a watch: `X ( [`.
@@ -268,9 +256,5 @@ pub fn later_opening(text: &[u8], at: usize) -> Step
     let Step::Done(a) = first else {
         return first;
     };
-    let second = expect(text, a.at, lexer::OPEN_ROUND);
-    let Step::Done(b) = second else {
-        return second;
-    };
-    expect(text, b.at, lexer::OPEN_SQUARE)
+    two_signs(text, a.at, lexer::OPEN_ROUND, lexer::OPEN_SQUARE)
 }

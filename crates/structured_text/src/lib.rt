@@ -11,7 +11,6 @@ ghost use Rattle.lexer.specs.Names.{tableNames, Table};
 ghost use Rattle.semantics.specs.Program.{Program};
 ghost use Rattle.bytecode.specs.Instructions.{encodeAll};
 ghost use Rattle.bytecode.specs.Translation.{Translatable, codeRules};
-ghost use Rattle.declarations.specs.Inner.Tables.{TableRoom};
 ghost use Rattle.st_writer.specs.Inner.Fronts.{Fronts};
 ghost use Rattle.st_writer.specs.Inner.Mirrored.{mirrored};
 ghost use Rattle.structured_text.specs.Services.{structuredTextOf};
@@ -156,36 +155,30 @@ fn write_image(
     )
 }
 
-// Over lent memory with room for the names, their ranges and the image.
-fn write_in(
-    text: &[u8],
-    out: &mut [u8],
-    starts: &mut [usize],
-    ends: &mut [usize],
-    low: &mut [i32],
-    high: &mut [i32],
-    values: &mut [i32],
-    scratch: &mut [u8],
-    mirror: &mut [u8],
-) -> Written
-    requires { ⌜ TableRoom (now starts) (now ends) 0 ⌝ }
+// Over lent memory with room for the image, once as it is and once mirrored.
+fn write_in(text: &[u8], out: &mut [u8], scratch: &mut [u8], mirror: &mut [u8]) -> Written
     requires { ⌜ (length (now text) ≤ textLimit) × (3 * length (now text) + 4 ≤ 2 * length (now scratch)) ⌝ }
-    requires { ⌜ (nameLimit ≤ length (now values)) × (length (now scratch) ≤ length (now mirror)) ⌝ }
+    requires { ⌜ length (now scratch) ≤ length (now mirror) ⌝ }
     ensures { λ r. ⌜ afterWriting r (now (out .exit)) ≡ structuredTextOf (now (text .entry)) (now (out .entry)) ⌝ }
     ensures { λ r. ⌜ WrittenWithin r ⌝ }
 {
-    let read = translate::descend(text, starts, ends, scratch);
+    let mut starts = [0usize; limits::NAME_LIMIT];
+    let mut ends = [0usize; limits::NAME_LIMIT];
+    let mut low = [0i32; 1];
+    let mut high = [0i32; 1];
+    let mut values = [0i32; limits::NAME_LIMIT];
+    let read = translate::descend(text, &mut starts, &mut ends, scratch);
     match read {
         Step::Done(end) => {
             let size = end.to;
             write_image(
                 text,
                 out,
-                starts,
-                ends,
-                low,
-                high,
-                values,
+                &starts,
+                &ends,
+                &mut low,
+                &mut high,
+                &mut values,
                 end.end,
                 &scratch[..size],
                 mirror,
@@ -201,24 +194,9 @@ fn write_short(text: &[u8], out: &mut [u8]) -> Written
     ensures { λ r. ⌜ afterWriting r (now (out .exit)) ≡ structuredTextOf (now (text .entry)) (now (out .entry)) ⌝ }
     ensures { λ r. ⌜ WrittenWithin r ⌝ }
 {
-    let mut starts = [0usize; limits::NAME_LIMIT];
-    let mut ends = [0usize; limits::NAME_LIMIT];
-    let mut low = [0i32; 1];
-    let mut high = [0i32; 1];
-    let mut values = [0i32; limits::NAME_LIMIT];
     let mut scratch = [0u8; 1538];
     let mut mirror = [0u8; 1538];
-    write_in(
-        text,
-        out,
-        &mut starts,
-        &mut ends,
-        &mut low,
-        &mut high,
-        &mut values,
-        &mut scratch,
-        &mut mirror,
-    )
+    write_in(text, out, &mut scratch, &mut mirror)
 }
 
 // A text of at most 8,192 bytes, whose image has at most 12,290.
@@ -227,24 +205,9 @@ fn write_middle(text: &[u8], out: &mut [u8]) -> Written
     ensures { λ r. ⌜ afterWriting r (now (out .exit)) ≡ structuredTextOf (now (text .entry)) (now (out .entry)) ⌝ }
     ensures { λ r. ⌜ WrittenWithin r ⌝ }
 {
-    let mut starts = [0usize; limits::NAME_LIMIT];
-    let mut ends = [0usize; limits::NAME_LIMIT];
-    let mut low = [0i32; 1];
-    let mut high = [0i32; 1];
-    let mut values = [0i32; limits::NAME_LIMIT];
     let mut scratch = [0u8; 12290];
     let mut mirror = [0u8; 12290];
-    write_in(
-        text,
-        out,
-        &mut starts,
-        &mut ends,
-        &mut low,
-        &mut high,
-        &mut values,
-        &mut scratch,
-        &mut mirror,
-    )
+    write_in(text, out, &mut scratch, &mut mirror)
 }
 
 // No image of a text has over 49,154 bytes.
@@ -253,24 +216,9 @@ fn write_any(text: &[u8], out: &mut [u8]) -> Written
     ensures { λ r. ⌜ afterWriting r (now (out .exit)) ≡ structuredTextOf (now (text .entry)) (now (out .entry)) ⌝ }
     ensures { λ r. ⌜ WrittenWithin r ⌝ }
 {
-    let mut starts = [0usize; limits::NAME_LIMIT];
-    let mut ends = [0usize; limits::NAME_LIMIT];
-    let mut low = [0i32; 1];
-    let mut high = [0i32; 1];
-    let mut values = [0i32; limits::NAME_LIMIT];
     let mut scratch = [0u8; limits::IMAGE_ROOM];
     let mut mirror = [0u8; limits::IMAGE_ROOM];
-    write_in(
-        text,
-        out,
-        &mut starts,
-        &mut ends,
-        &mut low,
-        &mut high,
-        &mut values,
-        &mut scratch,
-        &mut mirror,
-    )
+    write_in(text, out, &mut scratch, &mut mirror)
 }
 
 pub fn structured_text(text: &[u8], out: &mut [u8]) -> Written

@@ -125,8 +125,3 @@ unfolding tableNames
 spelled-next text starts ends n i h s e =
     let k : n - i ≡ suc (n - (i + 1)) = omega arith in
     rw (drop-cons starts i 0 s, drop-cons ends i 0 e, k, add-one)
-
--- ---- a part of the text
-
-pub part-next : (text : List ℕ) (i e : ℕ) → i < e → i < length text → part text i e ≡ getD text i 0 ∷ part text (i + 1) e
-part-next text i e h l = let k : e - i ≡ suc (e - (i + 1)) = omega arith in rw (k, drop-cons text i 0 l, add-one)

@@ -67,16 +67,8 @@ fn put_bytes(out: &mut [u8], at: usize, word: &[u8]) -> usize
 fn put_name(out: &mut [u8], at: usize, text: &[u8], start: usize, end: usize) -> usize
     ensures { λ r. ⌜ Put (now (out .entry)) at (32 ∷ part (now (text .entry)) start end) (now (out .exit)) r ⌝ }
 {
-    let mut place = put_byte(out, at, 32);
-    let mut i = start;
-    while i < end {
-        if text.len() <= i {
-            return place;
-        }
-        place = put_byte(out, place, text[i]);
-        i += 1;
-    }
-    place
+    let next = put_byte(out, at, 32);
+    put_bytes(out, next, lexer::name(text, start, end))
 }
 
 // The names that the first `count` entries of the table spell, each after a space.

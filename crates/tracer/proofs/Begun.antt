@@ -14,17 +14,15 @@ use Rattle.semantics.specs.Formula.{State}
 use Rattle.semantics.specs.Rows.{startsOf}
 use Rattle.bytecode.specs.Translation.{imageOf}
 use Rattle.lexer.specs.Names.{tableNames}
-use Rattle.grammar.specs.Parsed.{Parsed, accepted, refused}
+use Rattle.grammar.specs.Parsed.{accepted, refused}
 use Rattle.grammar.specs.Parse.{parse, answerOf, programOf}
 use Rattle.grammar.specs.Declarations.{spellings}
 use Rattle.grammar.proofs.Accepted.{name-length, parse-short, parse-named, parse-few, parse-growth, parse-translatable}
 use Rattle.grammar.proofs.Image.{image-emitted}
 use Rattle.translate.specs.declared.Translated.{Translated}
-use Rattle.translate.specs.declared.Analysis.{Analysis}
-use Rattle.translate.specs.declared.Analysis.the-variants as N
 use Rattle.translate.specs.Services.{AfterTranslation, translationOf}
 use Rattle.translate.specs.Results.{afterTranslation}
-use Rattle.translate.specs.Inner.Descent.{HeaderCounts, measuresOf, analysed, measured, Analyses}
+use Rattle.translate.specs.Inner.Descent.{AnalysedText}
 use Rattle.scan.specs.declared.Started.{Started}
 use Rattle.scan.specs.Services.{AfterStart, startOf}
 use Rattle.scan.specs.Results.{afterStart}
@@ -42,35 +40,20 @@ use Rattle.tracer.proofs.States.{state-counted, state-few}
 
 -- ---- what analyse says
 
-pub text-accepted : (text : List ℕ) {starts ends : List ℕ} (r : Analysis) {size inputs names timers : ℕ} → Analyses text (parse text) starts ends r → r ≡ N.Accepted size inputs names timers → AcceptedText text starts ends size names (names + timers)
-text-accepted text {starts} {ends} r {size} {inputs} {names} {timers} h a = by (parse text) refl (ap analysed (sym a) ∙ h .answer)
-  where
-    counts : A.Answer HeaderCounts → HeaderCounts → HeaderCounts
-    counts (A.accepted m) d = m
-    counts (A.refused k n) d = d
+pub text-accepted : {text starts ends : List ℕ} {size inputs names timers at count : ℕ} → AnalysedText text (parse text) starts ends size inputs names timers at count → AcceptedText text starts ends size names (names + timers)
+text-accepted {text} x = record {
+  program = x .program;
+  place = x .end;
+  parsed = x .parsed;
+  sized = x .sized ∙ ap length (image-emitted (x .program));
+  counted = x .named;
+  spelled = rw (x .named) (x .held .spelled);
+  states = ap₂ _+_ (x .named) (x .timed) ∙ sym (state-counted (x .program) (parse-translatable text (x .program) (x .end) (x .parsed) .well-formed));
+}
 
-    by : (q : Parsed Program) → parse text ≡ q → analysed (N.Accepted size inputs names timers) ≡ measured q → AcceptedText text starts ends size names (names + timers)
-    by (accepted p n) q e =
-        let m : record { end = size; inputs = inputs; names = names; timers = timers } ≡ measuresOf p = ap (λ (x : A.Answer HeaderCounts). counts x (measuresOf p)) e in
-        let c : names ≡ length (p .names) = ap {A = HeaderCounts} (λ x. x .names) m in
-        record {
-          program = p;
-          place = n;
-          parsed = q;
-          sized = ap {A = HeaderCounts} (λ x. x .end) m ∙ ap length (image-emitted p);
-          counted = c;
-          spelled = rw c (h .named p n q .spelled);
-          states = ap₂ _+_ c (ap {A = HeaderCounts} (λ x. x .timers) m) ∙ sym (state-counted p (parse-translatable text p n q .well-formed));
-        }
-    by (refused k n) q e = let z : _≡_ {A = ℕ} 0 1 = cc in let f : ⊥ = omega arith in absurd f
-
-pub text-refused : (text : List ℕ) (r : Analysis) {number place : ℕ} → analysed r ≡ measured (parse text) → r ≡ N.Refused number place → programOf text ≡ A.refused number place
+pub text-refused : (text : List ℕ) {number place : ℕ} → parse text ≡ refused number place → programOf text ≡ A.refused number place
 unfolding programOf
-text-refused text r {number} {place} h a = by (parse text) (ap analysed (sym a) ∙ h)
-  where
-    by : (q : Parsed Program) → analysed (N.Refused number place) ≡ measured q → answerOf q ≡ A.refused number place
-    by (accepted p n) e = let z : _≡_ {A = ℕ} 0 1 = cc in let f : ⊥ = omega arith in absurd f
-    by (refused k n) e = let i : k ≡ number = cc in let j : n ≡ place = cc in cc
+text-refused text e = ap answerOf e
 
 program-is : (text : List ℕ) (p : Program) (n : ℕ) → parse text ≡ accepted p n → programOf text ≡ A.accepted p
 unfolding programOf

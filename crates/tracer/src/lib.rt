@@ -90,7 +90,7 @@ fn open_in(
                 put,
             }
         }
-        Analysis::Accepted(size, _, names, timers) => {
+        Analysis::Accepted(size, _, names, timers, _, _) => {
             let width = names + timers;
             let put = begin_trace(
                 text,

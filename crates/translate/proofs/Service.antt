@@ -1,5 +1,5 @@
 -- From the descent to the service: the limit of texts, the answer, and the buffer. Assumes nothing.
-use mathlib.Core.Path.{_≡_, refl, sym, ap, ap₂, subst, _∙_}
+use mathlib.Core.Path.{_≡_, refl, sym, ap, subst, _∙_}
 use mathlib.Core.Bool.{Bool, true, false, cond}
 use mathlib.Core.List.{List, [], _∷_, _++_}
 use Prim.Native.Nat.{ℕ, _+_, _-_, _*_, _≤_, _<_}
@@ -16,7 +16,6 @@ use Rattle.bytecode.specs.Translation.{imageOf}
 use Rattle.grammar.specs.Parsed.{Parsed, accepted, refused}
 use Rattle.grammar.specs.Inner.Bytes.{header, bytesR, image}
 use Rattle.grammar.specs.Parse.{program, parse, answerOf, programOf}
-use Rattle.grammar.proofs.Combine.{same-value}
 use Rattle.grammar.proofs.Image.{image-emitted}
 use Rattle.grammar.proofs.Accepted.{parse-translatable, parse-few, parse-growth, parse-short as accepted-short}
 use Rattle.grammar.proofs.PlacesText.{Placed, parse-limited}
@@ -25,17 +24,14 @@ use Rattle.lexer.specs.declared.Place.{Place}
 use Rattle.lexer.specs.declared.Step.{Step}
 use Rattle.lexer.specs.declared.Step.the-variants.{Done, Refused}
 use Rattle.phrases.proofs.Writing.{got, refused-part}
-use Rattle.declarations.specs.Inner.Tables.{TableHolds}
+use Rattle.translate.specs.declared.Analysis.{Analysis}
 use Rattle.translate.specs.declared.Analysis.the-variants as N
 use Rattle.translate.specs.declared.Translated.{Translated}
 use Rattle.translate.specs.declared.Translated.the-variants as T
 use Rattle.translate.specs.Services.{AfterTranslation, translated, translationOf}
 use Rattle.translate.specs.Results.{translatedAnswer, afterTranslation, TranslatedWithin}
-use Rattle.translate.specs.declared.Surveyed.the-variants as S
-use Rattle.translate.specs.Inner.Descent.{measured, Analyses, Descends}
-use Rattle.translate.specs.Inner.Survey.{watchCounts, WatchesStand, Surveys}
+use Rattle.translate.specs.Inner.Descent.{WatchesStand, AnalysedText, analysedAs, Analyses, Descends}
 use Rattle.leb128.proofs.Stores.{sets-past, take-sets}
-use Rattle.translate.proofs.Ways.{never}
 use Rattle.translate.proofs.Descent.{image-bytes}
 
 -- ---- the limit of texts
@@ -44,49 +40,13 @@ pub parse-long : (text : List ℕ) → textLimit < length text → parse text �
 unfolding parse
 parse-long text h = rw (lt-ltb textLimit (length text) h)
 
-pub analyses-long : (text starts ends : List ℕ) → textLimit < length text → Analyses text (parse text) starts ends (N.Refused 9 0)
-analyses-long text starts ends h =
-    let e = parse-long text h in
-    record { answer = rw e; named = λ q n g. never q n 9 0 (sym g ∙ e) }
-
 -- the two counts are the first bytes of the image
 two-counts : (q : Program) → q .inputs ≤ length (q .names) → length (q .names) ≤ nameLimit → sets (0 ∷ 0 ∷ []) 0 (image q) ≡ q .inputs ∷ (length (q .names) - q .inputs) ∷ []
 two-counts q h i = rw (image-bytes q (omega arith) (omega arith)) (sets-past (q .inputs ∷ (length (q .names) - q .inputs) ∷ []) 2 (header (q .names) ++ bytesR (q .timers) (q .rules)) (omega arith))
 
-counted : (p : Parsed Program) (q : Program) (n t : ℕ) (last : List ℕ) → p ≡ accepted q n → t ≡ 0 + length (image q) → last ≡ q .inputs ∷ (length (q .names) - q .inputs) ∷ [] → q .inputs ≤ length (q .names)
-    → {i v o : ℕ} → i ≡ getD last 0 0 → v ≡ getD last 1 0 → o ≡ length (q .timers) → A.accepted (record { end = t; inputs = i; names = i + v; timers = o }) ≡ measured p
-counted p q n t last e f g h ei ev eo =
-    let s : t ≡ length (image q) = omega (arith, f) in
-    let all : q .inputs + (length (q .names) - q .inputs) ≡ length (q .names) = omega arith in
-    rw (e, s, ei, ev, g, all, eo)
-
 module _ (text last starts ends : List ℕ) {r : Step} (h : length text ≤ textLimit) (d : Descends text (program text) (0 ∷ 0 ∷ []) last starts ends r) where
-  names-held : (q : Program) (n : ℕ) → parse text ≡ accepted q n → TableHolds text starts ends (length (q .names)) (q .names)
-  names-held q n e = d .named q n (sym (short-parse text h) ∙ e)
-
-  pub analyses-refused : (k x : ℕ) → r ≡ Refused k x → Analyses text (parse text) starts ends (N.Refused k x)
-  analyses-refused k x e = record { answer = rw (short-parse text h, refused-part (d .writes) e); named = names-held }
-
-  pub analyses-accepted : (x : Place) → r ≡ Done x → {i v : ℕ} → i ≡ getD last 0 0 → v ≡ getD last 1 0 → Analyses text (parse text) starts ends (N.Accepted (x .to) i (i + v) (x .end))
-  analyses-accepted x e ei ev =
-      let g = got (d .writes) e in
-      let p : parse text ≡ accepted (g .tree) (x .at) = short-parse text h ∙ g .is in
-      let f = parse-few text (g .tree) (x .at) p in
-      let few : g .tree .inputs ≤ length (g .tree .names) = subst (λ (n : ℕ). g .tree .inputs ≤ n) (length-map (g .tree .names) (λ n. n .range)) (parse-translatable text (g .tree) (x .at) p .well-formed .inputs-fit) in
-      record { answer = counted (parse text) (g .tree) (x .at) (x .to) last p (g .ended) (g .wrote ∙ two-counts (g .tree) few f) few ei ev (d .timed (g .tree) (x .at) x (g .is) e); named = names-held }
-
--- ---- the survey
-
-pub surveys-long : (text starts ends : List ℕ) → textLimit < length text → Surveys text (parse text) starts ends (S.Refused 9 0)
-surveys-long text starts ends h =
-    let e = parse-long text h in
-    record { answer = rw e; stand = λ q n names at count timers g i. never q n 9 0 (sym g ∙ e) }
-
-module _ (text last starts ends : List ℕ) {r : Step} (h : length text ≤ textLimit) (d : Descends text (program text) (0 ∷ 0 ∷ []) last starts ends r) where
-  pub surveys-refused : (k x : ℕ) → r ≡ Refused k x → Surveys text (parse text) starts ends (S.Refused k x)
-  surveys-refused k x e =
-      let f : parse text ≡ refused k x = short-parse text h ∙ refused-part (d .writes) e in
-      record { answer = rw f; stand = λ q n names at count timers g i. never q n k x (sym g ∙ f) }
+  pub analyses-refused : (k x : ℕ) → r ≡ Refused k x → parse text ≡ refused k x
+  analyses-refused k x e = short-parse text h ∙ refused-part (d .writes) e
 
   module _ (x : Place) (e : r ≡ Done x) {i v : ℕ} (ei : i ≡ getD last 0 0) (ev : v ≡ getD last 1 0) (hs : nameLimit ≤ length starts) (he : nameLimit ≤ length ends) where
     abbrev read : Program
@@ -101,13 +61,15 @@ module _ (text last starts ends : List ℕ) {r : Step} (h : length text ≤ text
     inputs-few : read .inputs ≤ length (read .names)
     inputs-few = subst (λ (n : ℕ). read .inputs ≤ n) (length-map (read .names) (λ n. n .range)) (parse-translatable text read (x .at) parsed .well-formed .inputs-fit)
 
+    two-are : last ≡ read .inputs ∷ (length (read .names) - read .inputs) ∷ []
+    two-are = got (d .writes) e .wrote ∙ two-counts read inputs-few few
+
+    first : i ≡ read .inputs
+    first = ei ∙ ap (λ (k : List ℕ). getD k 0 0) two-are
+
     -- the two counts together
     total : i + v ≡ length (read .names)
-    total =
-        let l : last ≡ read .inputs ∷ (length (read .names) - read .inputs) ∷ [] = got (d .writes) e .wrote ∙ two-counts read inputs-few few in
-        let a : i ≡ read .inputs = ei ∙ ap (λ (k : List ℕ). getD k 0 0) l in
-        let b : v ≡ length (read .names) - read .inputs = ev ∙ ap (λ (k : List ℕ). getD k 1 0) l in
-        omega (arith, a, b, inputs-few)
+    total = let b : v ≡ length (read .names) - read .inputs = ev ∙ ap (λ (k : List ℕ). getD k 1 0) two-are in omega (arith, first, b, inputs-few)
 
     standing : WatchesStand text starts ends (i + v) (x .start) (read .watches)
     standing =
@@ -122,25 +84,30 @@ module _ (text last starts ends : List ℕ) {r : Step} (h : length text ≤ text
           read = rw (total, t) (w .read);
         }
 
-    pub surveys-accepted : Surveys text (parse text) starts ends (S.Watches (i + v) (x .start) (x .number) (x .end))
-    surveys-accepted = record {
-      answer = ap₂ (λ (n w : ℕ). A.accepted (record { names = n; watches = w; timers = x .end })) total (d .watched read (x .at) x (got (d .writes) e .is) e .0)
-          ∙ ap (λ (o : ℕ). A.accepted (record { names = length (read .names); watches = length (read .watches); timers = o })) (d .timed read (x .at) x (got (d .writes) e .is) e) ∙ sym (ap watchCounts parsed);
-      stand = λ q n names at count timers g k.
-          let a : i + v ≡ names = cc in
-          let b : x .start ≡ at = cc in
-          subst (λ (o : ℕ). WatchesStand text starts ends o at (q .watches)) a (subst (λ (o : ℕ). WatchesStand text starts ends (i + v) o (q .watches)) b (subst (λ (p : Program). WatchesStand text starts ends (i + v) (x .start) (p .watches)) (same-value (sym parsed ∙ g)) standing));
-    }
+    pub analyses-accepted : AnalysedText text (parse text) starts ends (x .to) i (i + v) (x .end) (x .start) (x .number)
+    analyses-accepted =
+        let g = got (d .writes) e in
+        record {
+          program = read;
+          end = x .at;
+          parsed = parsed;
+          sized = omega (arith, g .ended);
+          inputs-are = first;
+          named = total;
+          timed = d .timed read (x .at) x (g .is) e;
+          counted = d .watched read (x .at) x (g .is) e .0;
+          held = d .named read (x .at) (g .is);
+          stand = standing;
+        }
 
 -- ---- what the analysis says of the text
 
-module _ (p : Parsed Program) where
-  pub measured-refused : (k x : ℕ) → measured p ≡ A.refused k x → p ≡ refused k x
-  measured-refused k x = go p
-    where
-      go : (y : Parsed Program) → measured y ≡ A.refused k x → y ≡ refused k x
-      go (accepted q n) e = let z : _≡_ {A = ℕ} 0 1 = cc in let f : ⊥ = omega arith in absurd f
-      go (refused i j) e = let a : i ≡ k = cc in let b : j ≡ x = cc in rw (a, b)
+module _ {text : List ℕ} {p : Parsed Program} {starts ends : List ℕ} {r : Analysis} (a : Analyses text p starts ends r) where
+  pub analysed-text : {size inputs names timers at count : ℕ} → r ≡ N.Accepted size inputs names timers at count → AnalysedText text p starts ends size inputs names timers at count
+  analysed-text e = subst (analysedAs text p starts ends) e (a .so)
+
+  pub analysed-refused : {k q : ℕ} → r ≡ N.Refused k q → p ≡ refused k q
+  analysed-refused e = subst (analysedAs text p starts ends) e (a .so)
 
 -- ---- the service's definition
 

@@ -1,3 +1,2 @@
 -- What serves proofs and inner contracts only.
 pub mod Descent
-pub mod Survey

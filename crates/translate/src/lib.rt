@@ -20,17 +20,11 @@ ghost use Rattle.declarations.specs.Inner.Timers.{TimerRoom};
 ghost use Rattle.translate.specs.Services.{translationOf};
 ghost use Rattle.translate.specs.Results.{afterTranslation, TranslatedWithin};
 ghost use Rattle.translate.specs.Inner.Descent.{freeScope, tailFrom, ReadsHeading, Descends, Analyses};
-ghost use Rattle.translate.specs.Inner.Survey.{Surveys};
 
-// The image's length and the counts of inputs, of names and of timers among them; or a refusal's number and place.
+// The image's length; the counts of inputs, of names and of timers among them; the place where the rules end, and the count of the watches
+// there. Or a refusal's number and place.
 pub enum Analysis {
-    Accepted(usize, usize, usize, usize),
-    Refused(u8, usize),
-}
-
-// The count of names, the place where the rules end, the count of the watches there and that of timers; or a refusal's number and place.
-pub enum Surveyed {
-    Watches(usize, usize, usize, usize),
+    Accepted(usize, usize, usize, usize, usize, usize),
     Refused(u8, usize),
 }
 
@@ -187,7 +181,7 @@ fn count_of(byte: u8) -> usize
     byte as usize
 }
 
-// Checks a text and measures its image; leaves the names in the table, which has room for 64.
+// Checks a text, measures its image and tells where its watches stand; leaves the names in the table, which has room for 64.
 pub fn analyse(text: &[u8], starts: &mut [usize], ends: &mut [usize]) -> Analysis
     requires { ⌜ TableRoom (now starts) (now ends) 0 ⌝ }
     ensures { λ r. ⌜ Analyses (now (text .entry)) (parse (now (text .entry))) (now (starts .exit)) (now (ends .exit)) r ⌝ }
@@ -201,26 +195,10 @@ pub fn analyse(text: &[u8], starts: &mut [usize], ends: &mut [usize]) -> Analysi
     let inputs = count_of(counts[0]);
     let names = inputs + count_of(counts[1]);
     match read {
-        Step::Done(end) => Analysis::Accepted(end.to, inputs, names, end.end),
+        Step::Done(end) => {
+            Analysis::Accepted(end.to, inputs, names, end.end, end.start, end.number)
+        }
         Step::Refused(number, place) => Analysis::Refused(number, place),
-    }
-}
-
-// Checks a text and tells where its watches stand; leaves the names in the table, which has room for 64.
-pub fn survey(text: &[u8], starts: &mut [usize], ends: &mut [usize]) -> Surveyed
-    requires { ⌜ TableRoom (now starts) (now ends) 0 ⌝ }
-    ensures { λ r. ⌜ Surveys (now (text .entry)) (parse (now (text .entry))) (now (starts .exit)) (now (ends .exit)) r ⌝ }
-{
-    if limits::TEXT_LIMIT < text.len() {
-        return Surveyed::Refused(limits::TOO_LONG, 0);
-    }
-    // room for the two counts
-    let mut counts = [0u8; 2];
-    let read = descend(text, starts, ends, &mut counts);
-    let names = count_of(counts[0]) + count_of(counts[1]);
-    match read {
-        Step::Done(end) => Surveyed::Watches(names, end.start, end.number, end.end),
-        Step::Refused(number, place) => Surveyed::Refused(number, place),
     }
 }
 

@@ -1,7 +1,7 @@
 // The watch service: of each watch of a text, the place of a lent trace where it first failed.
 use evaluation::Failed;
 use lexer::Step;
-use translate::Surveyed;
+use translate::Analysis;
 ghost use mathlib.Core.Path.{_≡_};
 ghost use mathlib.Core.Bool.{true};
 ghost use mathlib.Core.List.{List, []};
@@ -129,8 +129,8 @@ fn watch_in(
     ensures { λ r. ⌜ afterWatch r (now (report .exit)) ≡ watchOf (now (text .entry)) (now (trace .entry)) (now (report .entry)) ⌝ }
     ensures { λ r. ⌜ WatchedWithin r ⌝ }
 {
-    match translate::survey(text, starts, ends) {
-        Surveyed::Watches(names, at, count, timers) => {
+    match translate::analyse(text, starts, ends) {
+        Analysis::Accepted(_, _, names, timers, at, count) => {
             // a state: the value of each name, then the elapsed time of each timer
             let size = names + timers;
             if !lent::is_trace(trace, size) {
@@ -154,7 +154,7 @@ fn watch_in(
             );
             Watched::Count(count)
         }
-        Surveyed::Refused(number, place) => Watched::Refused(number, place),
+        Analysis::Refused(number, place) => Watched::Refused(number, place),
     }
 }
 

@@ -1,19 +1,12 @@
--- `phrases::formula_closing` meets its contract: each token takes the definition one step on. Assumes nothing.
+-- `phrases::formula_closing` meets its contract. Assumes nothing.
 use borrow.Author.Needs.{needs}
 use Rattle.lexer.specs.Results.{kindOf}
-use Rattle.phrases.proofs.Laws.{last, stops, goes-on}
 use Rattle.phrases.proofs.formula_closing.Statement.{statement}
 use Rattle.phrases.proofs.formula_closing.Tie as tie
 
 returns : tie.Need-returns
 unfolding kindOf
-returns c = stops _ _ _ _ (c .before .before .expect .ensures) (c .enum-told .given .1)
-
-returns-2 : tie.Need-returns-2
-unfolding kindOf
-returns-2 c = goes-on _ _ _ _ (c .before .before .before .before .expect .ensures) (c .before .before .first .given .1) (last _ _ _ (c .expect2 .ensures))
+returns c = c .two-signs .ensures
 
 pub formula-closing-spec : {M : Type 1} → statement M
-formula-closing-spec =
-    tie.close
-    (tie.spec (λ c κs. search needs) (λ c. search needs) (λ c. search needs) returns (λ c κs. search needs) returns-2)
+formula-closing-spec = tie.close (tie.spec (λ c κs. search needs) returns)

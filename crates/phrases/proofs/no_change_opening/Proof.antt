@@ -8,7 +8,7 @@ use Rattle.lexer.specs.Token.{arrow, openRound, tilde}
 use Rattle.lexer.specs.Results.{kindOf}
 use Rattle.grammar.specs.Parsed.{Parsed, Wanted, sign, own, phrase}
 use Rattle.grammar.specs.Forms.{ruleOpening, unchangedValue, noChangeOpening}
-use Rattle.phrases.proofs.Laws.{last, stops, goes-on, stops-in, goes-past}
+use Rattle.phrases.proofs.Laws.{stops, goes-on, stops-in, goes-past}
 use Rattle.phrases.proofs.no_change_opening.Statement.{statement}
 use Rattle.phrases.proofs.no_change_opening.Tie as tie
 
@@ -47,15 +47,8 @@ past-opening : (c : tie.After-known-told3) {q : Parsed (Unit {0})} → Left (c .
 past-opening c h = past-name (c .before .before .before .before) (goes-past _ _ _ _ (c .before .before .before .rule-opening .ensures) (c .before .third .given .1) h)
 
 past-value : (c : tie.After-known-told4) {q : Parsed (Unit {0})} → Left (c .before .before .before .before .before .before .before .before .before .before .before .before .before .before .before .before .before) q from-arrow (c .before .fourth .given .0 .0 .at) → Whole (c .before .before .before .before .before .before .before .before .before .before .before .before .before .before .before .before .before) q
-past-value c h = past-opening (c .before .before .before .before) (goes-past _ _ _ _ (c .before .before .before .unchanged-value .ensures) (c .before .fourth .given .1) h)
-
-past-arrow : (c : tie.After-known-told5) {q : Parsed (Unit {0})} → Left (c .before .before .before .before .before .before .before .before .before .before .before .before .before .before .before .before .before .before .before .before .before) q (sign tilde ∷ sign openRound ∷ []) (c .before .fifth .given .0 .0 .at) → Whole (c .before .before .before .before .before .before .before .before .before .before .before .before .before .before .before .before .before .before .before .before .before) q
 unfolding kindOf
-past-arrow c h = past-value (c .before .before .before .before) (goes-on _ _ _ _ (c .before .before .before .expect .ensures) (c .before .fifth .given .1) h)
-
-past-tilde : (c : tie.After-known-told6) {q : Parsed (Unit {0})} → Left (c .before .before .before .before .before .before .before .before .before .before .before .before .before .before .before .before .before .before .before .before .before .before .before .before .before) q (sign openRound ∷ []) (c .before .sixth .given .0 .0 .at) → Whole (c .before .before .before .before .before .before .before .before .before .before .before .before .before .before .before .before .before .before .before .before .before .before .before .before .before) q
-unfolding kindOf
-past-tilde c h = past-arrow (c .before .before .before .before) (goes-on _ _ _ _ (c .before .before .before .expect2 .ensures) (c .before .sixth .given .1) h)
+past-value c h = past-opening (c .before .before .before .before) (goes-past _ _ _ _ (c .before .before .before .own-values .ensures) (c .before .fourth .given .1) h)
 
 returns : tie.Need-returns
 returns c = stops-in _ _ (from-name _) _ (c .before .before .formula-closing .ensures) (c .enum-told .given .1)
@@ -67,21 +60,14 @@ returns-3 : tie.Need-returns-3
 returns-3 c = past-name (c .before .before .before) (stops-in _ _ (from-value _) _ (c .before .before .rule-opening .ensures) (c .enum-told3 .given .1))
 
 returns-4 : tie.Need-returns-4
-returns-4 c = past-opening (c .before .before .before) (stops-in _ _ from-arrow _ (c .before .before .unchanged-value .ensures) (c .enum-told4 .given .1))
+unfolding kindOf
+returns-4 c = past-opening (c .before .before .before) (stops-in _ _ from-arrow _ (c .before .before .own-values .ensures) (c .enum-told4 .given .1))
 
 returns-5 : tie.Need-returns-5
 unfolding kindOf
-returns-5 c = past-value (c .before .before .before) (stops _ _ _ _ (c .before .before .expect .ensures) (c .enum-told5 .given .1))
-
-returns-6 : tie.Need-returns-6
-unfolding kindOf
-returns-6 c = past-arrow (c .before .before .before) (stops _ _ _ _ (c .before .before .expect2 .ensures) (c .enum-told6 .given .1))
-
-returns-7 : tie.Need-returns-7
-unfolding kindOf
-returns-7 c = past-tilde (c .before) (last _ _ _ (c .expect3 .ensures))
+returns-5 c = past-value (c .before) (c .three-signs .ensures)
 
 pub no-change-opening-spec : {M : Type 1} → statement M
 no-change-opening-spec =
     tie.close
-    (tie.spec (λ c κs. search needs) (λ c. search needs) (λ c. search needs) returns (λ c κs. search needs) (λ c. search needs) (λ c. search needs) returns-2 (λ c κs. search needs) (λ c. search needs) (λ c. search needs) returns-3 (λ c κs. search needs) (λ c. search needs) (λ c. search needs) returns-4 (λ c κs. search needs) (λ c. search needs) (λ c. search needs) returns-5 (λ c κs. search needs) (λ c. search needs) (λ c. search needs) returns-6 (λ c κs. search needs) returns-7)
+    (tie.spec (λ c κs. search needs) (λ c. search needs) (λ c. search needs) returns (λ c κs. search needs) (λ c. search needs) (λ c. search needs) returns-2 (λ c κs. search needs) (λ c. search needs) (λ c. search needs) returns-3 (λ c κs. search needs) (λ c. search needs) (λ c. search needs) returns-4 (λ c κs. search needs) returns-5)

@@ -1,29 +1,19 @@
 -- `phrases::turned_value` meets its contract: each token takes the definition one step on. Assumes nothing.
+use mathlib.Core.List.{[], _∷_}
 use borrow.Author.Needs.{needs}
+use Rattle.lexer.specs.Token.{arrow}
 use Rattle.lexer.specs.Results.{kindOf}
-use Rattle.phrases.proofs.Laws.{last, stops, goes-on}
+use Rattle.grammar.specs.Parsed.{sign}
+use Rattle.phrases.proofs.Laws.{last, stops-in, goes-past}
 use Rattle.phrases.proofs.turned_value.Statement.{statement}
 use Rattle.phrases.proofs.turned_value.Tie as tie
 
 returns : tie.Need-returns
-returns c = stops _ _ _ _ (c .before .before .expect-name .ensures) (c .enum-told .given .1)
+returns c = stops-in _ _ (sign arrow ∷ []) _ (c .before .before .own-values .ensures) (c .enum-told .given .1)
 
 returns-2 : tie.Need-returns-2
-returns-2 c = goes-on _ _ _ _ (c .before .before .before .before .before .before .expect-name .ensures) (c .before .before .before .before .first .given .1) (stops _ _ _ _ (c .before .before .expect .ensures) (c .enum-told2 .given .1))
-
-returns-3 : tie.Need-returns-3
-returns-3 c =
-    goes-on _ _ _ _ (c .before .before .before .before .before .before .before .before .before .before .expect-name .ensures) (c .before .before .before .before .before .before .before .before .first .given .1)
-    (goes-on _ _ _ _ (c .before .before .before .before .before .before .expect .ensures) (c .before .before .before .before .second .given .1) (stops _ _ _ _ (c .before .before .expect-previous .ensures) (c .enum-told3 .given .1)))
-
-returns-4 : tie.Need-returns-4
 unfolding kindOf
-returns-4 c =
-    goes-on _ _ _ _ (c .before .before .before .before .before .before .before .before .before .before .before .before .expect-name .ensures) (c .before .before .before .before .before .before .before .before .before .before .first .given .1)
-    (goes-on _ _ _ _ (c .before .before .before .before .before .before .before .before .expect .ensures) (c .before .before .before .before .before .before .second .given .1)
-    (goes-on _ _ _ _ (c .before .before .before .before .expect-previous .ensures) (c .before .before .third .given .1) (last _ _ _ (c .expect2 .ensures))))
+returns-2 c = goes-past _ _ _ _ (c .before .before .before .before .own-values .ensures) (c .before .before .first .given .1) (last _ _ _ (c .expect .ensures))
 
 pub turned-value-spec : {M : Type 1} → statement M
-turned-value-spec =
-    tie.close
-    (tie.spec (λ c κs. search needs) (λ c. search needs) (λ c. search needs) returns (λ c κs. search needs) (λ c. search needs) (λ c. search needs) returns-2 (λ c κs. search needs) (λ c. search needs) (λ c. search needs) returns-3 (λ c κs. search needs) returns-4)
+turned-value-spec = tie.close (tie.spec (λ c κs. search needs) (λ c. search needs) (λ c. search needs) returns (λ c κs. search needs) returns-2)

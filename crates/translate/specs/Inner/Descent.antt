@@ -6,11 +6,9 @@ use mathlib.Core.Bool.{Bool}
 use mathlib.Core.List.{List, []}
 use lib.ListN.{length}
 use lib.Seq.{sets}
-use Rattle.limits.specs.Limits.{watchLimit}
-use Rattle.limits.specs.Answer.{Answer}
-use Rattle.limits.specs.Answer as A
+use Rattle.limits.specs.Limits.{textLimit, nameLimit, watchLimit}
 use Rattle.lexer.specs.Token.{inputWord, varWord}
-use Rattle.lexer.specs.Names.{tableNames}
+use Rattle.lexer.specs.Names.{tableNames, Table}
 use Rattle.semantics.specs.Program.{Name, Timer, Watch, Program, knownFirst, free}
 use Rattle.grammar.specs.Parsed.{Parsed, accepted, refused, andThen, itemBound}
 use Rattle.grammar.specs.Expressions.{Scope}
@@ -75,25 +73,6 @@ tailFrom sc known at = andThen (watchesFrom watchLimit sc [] at) (λ ws n. andTh
 abbrev pub scopeOfWatches : List ℕ → Declarations → Scope
 scopeOfWatches text d = record { text = text; names = spellings (d .names); known = free (length (d .names)) }
 
--- the image's length, and the counts of inputs, of names and of timers among them
-pub record HeaderCounts : Type 0 where
-  pub end : ℕ
-  pub inputs : ℕ
-  pub names : ℕ
-  pub timers : ℕ
-
--- the image's length and the counts of a program
-abbrev pub measuresOf : Program → HeaderCounts
-measuresOf p = record { end = length (image p); inputs = p .inputs; names = length (p .names); timers = length (p .timers) }
-
-abbrev pub analysed : Analysis → Answer HeaderCounts
-analysed (N.Accepted size inputs names timers) = A.accepted (record { end = size; inputs = inputs; names = names; timers = timers })
-analysed (N.Refused k p) = A.refused k p
-
-abbrev pub measured : Parsed Program → Answer HeaderCounts
-measured (accepted p n) = A.accepted (measuresOf p)
-measured (refused k q) = A.refused k q
-
 -- the watches of a program stand from `at` on
 pub record WatchesRead (text : List ℕ) (q : Program) (at : ℕ) : Type 0 where
   pub within : at ≤ length text
@@ -107,7 +86,33 @@ pub record Descends (text : List ℕ) (p : Parsed Program) (before after starts 
   pub watched : (q : Program) (n : ℕ) (x : Place) → p ≡ accepted q n → r ≡ Done x → (x .number ≡ length (q .watches)) × WatchesRead text q (x .start)
   pub timed : (q : Program) (n : ℕ) (x : Place) → p ≡ accepted q n → r ≡ Done x → x .end ≡ length (q .timers)
 
--- the same without a buffer, its limit tested first
+-- the watches ws stand from `at` on, and the table holds the names that they may use
+pub record WatchesStand (text starts ends : List ℕ) (names at : ℕ) (ws : List Watch) : Type 0 where
+  pub short : length text ≤ textLimit
+  pub within : at ≤ length text
+  pub few : names ≤ nameLimit
+  pub table : Table starts ends names
+  pub end : ℕ
+  pub read : watchesFrom watchLimit (freeScope text starts ends names) [] at ≡ accepted ws end
+
+-- the program of an accepted text: its image's length, the counts of inputs, of names and of timers among them, the table of its names,
+-- and how many watches stand at a place
+pub record AnalysedText (text : List ℕ) (p : Parsed Program) (starts ends : List ℕ) (size inputs names timers at count : ℕ) : Type 0 where
+  pub program : Program
+  pub end : ℕ
+  pub parsed : p ≡ accepted program end
+  pub sized : size ≡ length (image program)
+  pub inputs-are : inputs ≡ program .inputs
+  pub named : names ≡ length (program .names)
+  pub timed : timers ≡ length (program .timers)
+  pub counted : count ≡ length (program .watches)
+  pub held : TableHolds text starts ends (length (program .names)) (program .names)
+  pub stand : WatchesStand text starts ends names at (program .watches)
+
+abbrev pub analysedAs : List ℕ → Parsed Program → List ℕ → List ℕ → Analysis → Type 0
+analysedAs text p starts ends (N.Accepted size inputs names timers at count) = AnalysedText text p starts ends size inputs names timers at count
+analysedAs text p starts ends (N.Refused k q) = p ≡ refused k q
+
+-- the whole text without a buffer, its limit tested first
 pub record Analyses (text : List ℕ) (p : Parsed Program) (starts ends : List ℕ) (r : Analysis) : Type 0 where
-  pub answer : analysed r ≡ measured p
-  pub named : (q : Program) (n : ℕ) → p ≡ accepted q n → TableHolds text starts ends (length (q .names)) (q .names)
+  pub so : analysedAs text p starts ends r

@@ -5,7 +5,7 @@ use mathlib.Core.List.{List}
 use mathlib.Core.Option.{Option, none, some}
 use lib.ListN.{length, take, drop}
 use Rattle.semantics.specs.Program.{Condition, Watch}
-use Rattle.translate.specs.Inner.Survey.{WatchesStand}
+use Rattle.translate.specs.Inner.Descent.{WatchesStand}
 use Rattle.evaluation.specs.declared.Failed.{Failed}
 use Rattle.evaluation.specs.declared.Failed.the-variants.{At, Never}
 use Rattle.evaluation.specs.Conditions.{ConditionCode}
