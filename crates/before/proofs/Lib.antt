@@ -1,4 +1,4 @@
-pub mod Stored
 pub mod Cells
+pub mod Stored
 pub mod Tests
 pub mod Begins

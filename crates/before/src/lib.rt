@@ -5,7 +5,7 @@ use shapes::Measured;
 use shapes::Shaped;
 ghost use mathlib.Core.Path.{_≡_};
 ghost use mathlib.Core.List.{List};
-ghost use Prim.Native.Nat.{_+_, _≤_};
+ghost use Prim.Native.Nat.{_+_};
 ghost use lib.ListN.{length};
 ghost use Rattle.limits.specs.Limits.{stateLimit};
 ghost use Rattle.semantics.specs.Program.{Range};
@@ -13,7 +13,7 @@ ghost use Rattle.semantics.specs.Shape.{Shape};
 ghost use Rattle.machine.specs.Inner.Memory.{RangesIn};
 ghost use Rattle.before.specs.Before.{beforeCode};
 ghost use Rattle.before.specs.Inner.Memory.{FittingMemory, Scratch};
-ghost use Rattle.before.specs.Inner.Known.{beforeAnswer, inRanges, CopiedBy, KnownShape, testedRow, PreparedBy, BegunBy};
+ghost use Rattle.before.specs.Inner.Known.{beforeAnswer, inRanges, CopiedBy, KnownShape, testedRow, PreparedBy, ShapedFor, BegunBy};
 
 // The place of the code and the timing of the row, or a refusal's number and place.
 pub enum Before {
@@ -108,6 +108,20 @@ pub fn before_known(
     before_timed(m, low, high, state, row, work)
 }
 
+// 9, 11, then 12 of a state of so many numbers: the shape of an image whose states have as many.
+pub fn shape_for(image: &[u8], numbers: usize, low: &mut [i32], high: &mut [i32]) -> Shaped
+    ensures { λ r. ⌜ ShapedFor (now (image .entry)) numbers (now (low .entry)) (now (high .entry)) (now (low .exit)) (now (high .exit)) r ⌝ }
+{
+    let shaped = shapes::shape(image, low, high);
+    let Shaped::Shape(m) = shaped else {
+        return shaped;
+    };
+    if numbers != m.size {
+        return Shaped::Refused(limits::WRONG_LENGTH, 0);
+    }
+    shaped
+}
+
 // 9, 11, 12, 18, 13; what the code's run needs then stands at the front of the lent memory.
 pub fn before_code(
     image: &[u8],
@@ -121,14 +135,11 @@ pub fn before_code(
     ensures { λ r. ⌜ beforeAnswer r ≡ beforeCode (now (image .entry)) (now (state .entry)) (now (row .entry)) ⌝ }
     ensures { λ r. ⌜ BegunBy (now (image .entry)) (now (state .entry)) (now (row .entry)) (now (low .exit)) (now (high .exit)) (now (work .exit)) r ⌝ }
 {
-    let shaped = shapes::shape(image, low, high);
+    let shaped = shape_for(image, state.len(), low, high);
     match shaped {
         Shaped::Refused(number, place) => Before::Refused(number, place),
         Shaped::Shape(m) => {
             let size = m.size;
-            if state.len() != size {
-                return Before::Refused(limits::WRONG_LENGTH, 0);
-            }
             before_known(
                 m,
                 &low[..size],

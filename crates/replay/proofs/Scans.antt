@@ -2,13 +2,13 @@
 use Prim.Native.Nat.{ℕ, suc, _+_, _-_, _≤_, _<_, min}
 use mathlib.Core.Path.{_≡_, refl, sym, ap, _∙_}
 use mathlib.Core.Bool.{Bool, true, false}
-use mathlib.Core.List.{List, []}
+use mathlib.Core.List.{List}
 use native.Mathlib.Omega.{arith}
 use native.Mathlib.Numerals.{add-one}
 use lib.Dec.{leb}
 use lib.IntN.{ℤ}
-use lib.ListN.{length, take, drop, set, getD, length-drop}
-use lib.Seq.{sets, drop-cons, drop-drop, drop-length, take-all, length-sets}
+use lib.ListN.{length, take, drop, set, getD, length-drop, drop-of-length-le}
+use lib.Seq.{sets, drop-cons, drop-drop, take-all, length-sets}
 use borrow.Author.Tests.{leb-true, leb-false}
 use Rattle.semantics.specs.Formula.{State}
 use Rattle.scan.specs.declared.Scanned.the-variants as R
@@ -34,11 +34,6 @@ take-clipped from n end l e = by (leb n (length (drop from l))) (leb-true n (len
         let h : length (drop from l) < n = m refl in
         let k : length (drop from l) ≤ end - from = omega (arith, length-drop from l) in
         take-all (end - from) (drop from l) k ∙ sym (take-all n (drop from l) (omega arith))
-
-pub drop-all : {A : Type 0} (i : ℕ) (l : List A) → length l ≤ i → drop i l ≡ []
-drop-all i l h =
-    let e : min i (length l) ≡ length l = omega arith in
-    sym (drop-clip i l) ∙ rw e (drop-length l)
 
 -- ---- one scan
 
@@ -86,4 +81,4 @@ module _ {image : List ℕ} {cells : List ℤ} {lengths : List ℕ} {first : Rec
       }
 
   pub scanning-ends : length lengths ≤ c .row → m ≡ scanRows image 0 (rowsOf cells lengths) first
-  scanning-ends h = rw (drop-all (c .row) lengths h) at (g .so)
+  scanning-ends h = rw (drop-of-length-le lengths {i = c .row} h) at (g .so)

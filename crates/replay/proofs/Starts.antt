@@ -1,4 +1,4 @@
--- What a start that was accepted says of its image, and what the shape of an image has at hand for its rows. Assumes nothing.
+-- What a start that was accepted says of its image, and what its rows need. Assumes nothing.
 use Prim.Native.Nat.{ℕ, _≤_}
 use mathlib.Core.Path.{_≡_, refl, sym, _∙_}
 use mathlib.Core.Bool.{Bool, true, false, cond}
@@ -7,6 +7,7 @@ use native.Mathlib.Omega.{arith}
 use lib.Dec.{eqb}
 use lib.IntN.{ℤ}
 use lib.ListN.{length, take}
+use lib.Seq.{length-take-le}
 use borrow.Author.Tests.{eqb-true}
 use Rattle.limits.specs.Limits.{stackLimit}
 use Rattle.limits.specs.Answer.{Answer, accepted, refused}
@@ -14,10 +15,9 @@ use Rattle.semantics.specs.Formula.{State}
 use Rattle.bytecode.specs.Check.{checkOf}
 use Rattle.bytecode.specs.Parts.{shapeIn}
 use Rattle.shapes.specs.declared.Measured.{Measured}
-use Rattle.shapes.specs.Results.{Measures}
 use Rattle.semantics.specs.Shape.{stateLength, startingState}
 use Rattle.scan.specs.Services.{AfterStart, started, startOf}
-use Rattle.scan.proofs.Scans.{known-image}
+use Rattle.before.specs.Inner.Known.{KnownImage, KnownFront}
 use Rattle.replay.specs.Inner.Records.{KnownBy}
 
 -- a start is accepted for a sound image and a state of one length only
@@ -38,17 +38,15 @@ module _ (image : List ℕ) (s : State) where
 
 -- ---- what the rows need
 
+-- a state of the same length
+same-known : {image : List ℕ} {m : Measured} {low high s s₀ : List ℤ} → length s ≡ length s₀ → KnownImage image m s₀ low high → KnownImage image m s low high
+same-known e k = record { sound = k .sound; code = k .code; inside = k .inside; shape = k .shape; numbers = e ∙ k .numbers }
+
 pub known-kept : {image : List ℕ} {m : Measured} {low high work₀ vals₀ state₀ : List ℤ} → KnownBy image m low high work₀ vals₀ state₀ → (work vals state : List ℤ) → length work ≡ length work₀ → length vals ≡ length vals₀
     → length state ≡ length state₀ → KnownBy image m low high work vals state
-known-kept x work vals state a v b =
-    let k = x .image-known in
-    record {
-      image-known = record { sound = k .sound; code = k .code; inside = k .inside; shape = k .shape; numbers = b ∙ k .numbers };
-      copies = a ∙ x .copies ∙ sym b;
-      stack = omega (arith, v, x .stack);
-    }
+known-kept x work vals state a v b = record { image-known = same-known b (x .image-known); copies = a ∙ x .copies ∙ sym b; stack = omega (arith, v, x .stack) }
 
--- the shape that was read, at the front of lent memory
-pub known-by : (image : List ℕ) (s work vals : List ℤ) {low₀ high₀ low high : List ℤ} {m : Measured} → Measures image low₀ high₀ low high m → length s ≡ m .size
-    → m .size ≤ length low₀ → m .size ≤ length high₀ → length work ≡ m .size → stackLimit ≤ length vals → KnownBy image m (take (m .size) low) (take (m .size) high) work vals s
-known-by image s work vals h e l u w v = record { image-known = known-image image s h e l u; copies = w ∙ sym e; stack = v }
+-- at the front of lent memory
+pub known-by : {image : List ℕ} {m : Measured} {s low high work : List ℤ} → KnownFront image m s low high work → length s ≡ m .size → (vals state : List ℤ) → stackLimit ≤ length vals → length state ≡ length s
+    → KnownBy image m (take (m .size) low) (take (m .size) high) (take (m .size) work) vals state
+known-by {m = m} {work = work} x e vals state v b = record { image-known = same-known b (x .known); copies = length-take-le (m .size) work (x .copies) ∙ sym (b ∙ e); stack = v }

@@ -166,15 +166,11 @@ fn replay_in(
         (lent buffer (now (state .entry)) (now (numbers .entry)) (now (steps .entry)) (now (trace .entry)))) ⌝ }
     ensures { λ r. ⌜ ReplayedWithin r ⌝ }
 {
-    let shaped = shapes::shape(image, low, high);
+    let shaped = scan::start_shape(image, state, low, high);
     match shaped {
         Shaped::Refused(number, place) => Replayed::Refused(number, place),
         Shaped::Shape(m) => {
             let size = m.size;
-            if state.len() != size {
-                return Replayed::Refused(limits::WRONG_LENGTH, 0);
-            }
-            scan::start_known(image, m.names, state);
             let at = lists::store(trace, 0, state);
             scan_rows(
                 image,

@@ -1,29 +1,23 @@
 -- A scan is its tests before the code, then the code. Assumes nothing.
-use mathlib.Core.Path.{_≡_, refl, sym, ap, _∙_}
+use mathlib.Core.Path.{_≡_, refl, sym, _∙_}
 use mathlib.Core.Bool.{Bool, true, false, _&&_}
 use mathlib.Core.List.{List}
-use Prim.Native.Nat.{ℕ, _≤_}
+use Prim.Native.Nat.{ℕ}
 use native.Mathlib.Omega.{arith}
 use lib.Dec.{eqb}
 use lib.IntN.{ℤ}
-use lib.ListN.{length, take, drop, length-drop, length-map}
+use lib.ListN.{length, take, drop, length-drop}
 use Rattle.limits.specs.Answer.{Answer, accepted, refused}
 use Rattle.semantics.specs.Formula.{State}
-use Rattle.semantics.specs.Shape.{Shape, cells, stateLength, rowLength, stateInRange, rowInRange, settingOf}
+use Rattle.semantics.specs.Shape.{Shape, stateLength, rowLength, stateInRange, rowInRange, settingOf}
 use Rattle.semantics.specs.ReferenceScan.{withInputs}
 use Rattle.bytecode.specs.Check.{checkOf}
 use Rattle.bytecode.specs.Parts.{headerOf, codeOf, shapeIn}
 use Rattle.bytecode.proofs.Walk.{check-sound}
-use Rattle.shapes.specs.declared.Measured.{Measured}
-use Rattle.shapes.specs.Results.{Measures}
-use Rattle.machine.proofs.Changes.{names-length}
 use Rattle.before.specs.Before.{testedBefore, mayScan, beforeCode}
-use Rattle.before.specs.Inner.Memory.{FittingMemory}
-use Rattle.before.proofs.Cells.{names-first}
-use Rattle.before.proofs.Stored.{ranges-stored}
 use Rattle.scan.specs.Services.{AfterScan, scanCode, testedScan, scanned, scanOf}
 use Rattle.scan.specs.Results.{afterScan, ScannedWithin}
-use Rattle.scan.specs.Inner.Parts.{scannedOver, scannedBy, KnownImage}
+use Rattle.scan.specs.Inner.Parts.{scannedOver, scannedBy}
 use Rattle.scan.specs.declared.Scanned.{Scanned}
 use Rattle.scan.specs.declared.Scanned.the-variants as R
 
@@ -51,34 +45,6 @@ module _ (image : List ℕ) (found : State) (row : List ℤ) where
       → scannedOver (settingOf (shapeIn image) row) (drop place image) found cur ≡ scanOf image found row
   unfolding scanCode codeOf
   tests-pass e place cur p c = sym (scan-is image found row ∙ rw (← e, p, c))
-
--- the memory of an image known to be sound
-pub known-fits : {image : List ℕ} {m : Measured} {state low high work : List ℤ} → KnownImage image m state low high → length work ≡ length state → FittingMemory (m .inputs) state low high work
-known-fits {image} {low = low} {high = high} k w =
-    let k₁ = k .shape in
-    let n : length low ≡ length (cells (shapeIn image)) = sym (names-length (cells (shapeIn image)) low high (k₁ .ranges)) in
-    let h : length high ≡ length (cells (shapeIn image)) = sym (ap length (k₁ .ranges .highs)) ∙ length-map (cells (shapeIn image)) (λ r. r .high) in
-    record { among = omega (arith, k .numbers, names-first (shapeIn image), k₁ .names-are, k₁ .among); lows = n ∙ sym (k .numbers); highs = h ∙ sym (k .numbers); copies = w }
-
--- the shape that was read, at the front of lent memory
-pub known-image : (image : List ℕ) (s : List ℤ) {low₀ high₀ low high : List ℤ} {m : Measured} → Measures image low₀ high₀ low high m → length s ≡ m .size
-    → m .size ≤ length low₀ → m .size ≤ length high₀ → KnownImage image m s (take (m .size) low) (take (m .size) high)
-known-image image s {m = m} h e l u =
-    let n : length (cells (shapeIn image)) ≡ m .size = sym (h .size-is) in
-    record {
-      sound = h .sound;
-      code = h .place-is;
-      inside = h .inside;
-      shape =
-          record {
-            inputs-are = h .inputs-are;
-            names-are = h .names-are;
-            among = h .among;
-            flags = sym (h .timers-are);
-            ranges = ranges-stored (cells (shapeIn image)) (m .size) _ _ _ _ n l u (h .lower) (h .upper);
-          };
-      numbers = e ∙ h .size-is;
-    }
 
 -- a code's steps are within the image's limit
 pub within-image : (image : List ℕ) (place : ℕ) → checkOf image ≡ accepted tt → (r : Scanned) → ScannedWithin (length (drop place image)) r → ScannedWithin 65536 r

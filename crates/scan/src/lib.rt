@@ -12,10 +12,10 @@ use shapes::Measured;
 use shapes::Shaped;
 ghost use mathlib.Core.Path.{_≡_};
 ghost use mathlib.Core.Bool.{true, false};
-ghost use mathlib.Core.List.{_++_};
-ghost use Prim.Native.Nat.{_-_, _≤_};
+ghost use Prim.Native.Nat.{_≤_};
 ghost use lib.IntN.{pos};
-ghost use lib.ListN.{length, take, replicate};
+ghost use lib.ListN.{length, replicate};
+ghost use lib.Seq.{sets};
 ghost use Rattle.limits.specs.Limits.{imageLimit, nameLimit, stateLimit, stackLimit};
 ghost use Rattle.limits.specs.Answer.{accepted};
 ghost use Rattle.semantics.specs.Shape.{hasTimer, allWithin, Setting};
@@ -23,9 +23,10 @@ ghost use Rattle.bytecode.specs.Check.{checkOf};
 ghost use Rattle.bytecode.specs.Parts.{headerOf, limitsOf};
 ghost use Rattle.machine.specs.Inner.Memory.{ranOf, RangesIn, TimingIn, OneEach};
 ghost use Rattle.before.specs.Inner.Memory.{FittingMemory, Scratch};
+ghost use Rattle.before.specs.Inner.Known.{KnownImage};
 ghost use Rattle.scan.specs.Services.{startOf, refusedScan, scanOf};
 ghost use Rattle.scan.specs.Results.{afterStart, StartedWithin, afterScan, ScannedWithin};
-ghost use Rattle.scan.specs.Inner.Parts.{ranOver, scannedOver, KnownHeader, KnownImage, Startable, startedWith};
+ghost use Rattle.scan.specs.Inner.Parts.{ranOver, scannedOver, KnownHeader, StartedFor};
 
 // Done, or the number of a refusal and its place.
 pub enum Started {
@@ -134,14 +135,11 @@ fn scan_begun(
     ensures { λ r. ⌜ afterScan r (now (state .exit)) ≡ scanOf (now (image .entry)) (now (state .entry)) (now (row .entry)) ⌝ }
     ensures { λ r. ⌜ ScannedWithin imageLimit r ⌝ }
 {
-    let shaped = shapes::shape(image, low, high);
+    let shaped = before::shape_for(image, state.len(), low, high);
     match shaped {
         Shaped::Refused(number, place) => Scanned::Refused(number, place, 0),
         Shaped::Shape(m) => {
             let size = m.size;
-            if state.len() != size {
-                return Scanned::Refused(limits::WRONG_LENGTH, 0, 0);
-            }
             scan_known(
                 image,
                 m,
@@ -306,56 +304,28 @@ pub fn scan(image: &[u8], state: &mut [i32], row: &[i32]) -> Scanned
     scan_any(image, state, row)
 }
 
-// Zeros from a place on.
+// Zeros from a place on, as many as a state has elapsed times at most.
 fn clear(state: &mut [i32], from: usize)
     requires { ⌜ from ≤ length (now state) ⌝ }
-    ensures { λ _. ⌜ now (state .exit) ≡ take from (now (state .entry)) ++ replicate (length (now (state .entry)) - from) (pos 0) ⌝ }
+    ensures { λ _. ⌜ now (state .exit) ≡ sets (now (state .entry)) from (replicate nameLimit (pos 0)) ⌝ }
 {
-    let mut i = from;
-    while i < state.len() {
-        state[i] = 0;
-        i += 1;
-    }
+    let zeros = [0i32; limits::NAME_LIMIT];
+    lists::store(state, from, &zeros);
 }
 
-// The start of an image known to be sound, whose names were counted, on a state of its length: the declared starts, then elapsed times of 0.
-// Lows and highs are stored as far as there is room for them; a start needs neither.
-fn start_over(image: &[u8], names: usize, state: &mut [i32], low: &mut [i32], high: &mut [i32])
-    requires { ⌜ Startable (now image) names (now state) ⌝ }
-    ensures { λ _. ⌜ startedWith (now (state .exit)) ≡ startOf (now (image .entry)) (now (state .entry)) ⌝ }
+// 9, 11 and 12, then the declared starts, and elapsed times of 0; what was measured of the image is handed on. A start needs neither lows nor highs.
+pub fn start_shape(image: &[u8], state: &mut [i32], low: &mut [i32], high: &mut [i32]) -> Shaped
+    ensures { λ r. ⌜ StartedFor (now (image .entry)) (now (state .entry)) (now (low .entry)) (now (high .entry)) (now (low .exit)) (now (high .exit)) (now (state .exit)) r ⌝ }
 {
-    let Headed::Header(_, _, _) = bytecode::header(image, low, high, state) else {
-        return;
+    let shaped = before::shape_for(image, state.len(), low, high);
+    let Shaped::Shape(m) = shaped else {
+        return shaped;
     };
-    clear(state, names);
-}
-
-// The same, with memory of its own.
-pub fn start_known(image: &[u8], names: usize, state: &mut [i32])
-    requires { ⌜ Startable (now image) names (now state) ⌝ }
-    ensures { λ _. ⌜ startedWith (now (state .exit)) ≡ startOf (now (image .entry)) (now (state .entry)) ⌝ }
-{
-    let mut low = [0i32; 1];
-    let mut high = [0i32; 1];
-    start_over(image, names, state, &mut low, &mut high);
-}
-
-// After 9, 11 and 12.
-fn start_in(image: &[u8], state: &mut [i32], low: &mut [i32], high: &mut [i32]) -> Started
-    ensures { λ r. ⌜ afterStart r (now (state .exit)) ≡ startOf (now (image .entry)) (now (state .entry)) ⌝ }
-    ensures { λ r. ⌜ StartedWithin imageLimit r ⌝ }
-{
-    let shaped = shapes::shape(image, low, high);
-    match shaped {
-        Shaped::Refused(number, place) => Started::Refused(number, place),
-        Shaped::Shape(m) => {
-            if state.len() != m.size {
-                return Started::Refused(limits::WRONG_LENGTH, 0);
-            }
-            start_known(image, m.names, state);
-            Started::Done
-        }
-    }
+    let mut lows = [0i32; 1];
+    let mut highs = [0i32; 1];
+    bytecode::header(image, &mut lows, &mut highs, state);
+    clear(state, m.names);
+    shaped
 }
 
 // The declared starts, after 9, 11 and 12. A refusal leaves the state as found.
@@ -365,5 +335,9 @@ pub fn start(image: &[u8], state: &mut [i32]) -> Started
 {
     let mut low = [0i32; 1];
     let mut high = [0i32; 1];
-    start_in(image, state, &mut low, &mut high)
+    let shaped = start_shape(image, state, &mut low, &mut high);
+    match shaped {
+        Shaped::Refused(number, place) => Started::Refused(number, place),
+        Shaped::Shape(_) => Started::Done,
+    }
 }

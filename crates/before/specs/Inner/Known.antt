@@ -13,7 +13,11 @@ use Rattle.semantics.specs.Formula.{State}
 use Rattle.semantics.specs.Shape.{Shape, nameCount, timersOf, cells, stateLength, allWithin, stateInRange, rowLength, rowInRange, settingOf}
 use Rattle.semantics.specs.ReferenceScan.{withInputs}
 use Rattle.bytecode.specs.Parts.{headerOf, shapeIn, lows, highs}
+use Rattle.bytecode.specs.Check.{checkOf}
 use Rattle.shapes.specs.declared.Measured.{Measured}
+use Rattle.shapes.specs.declared.Shaped.{Shaped}
+use Rattle.shapes.specs.declared.Shaped.the-variants as M
+use Rattle.shapes.specs.Results.{Measures}
 use Rattle.machine.specs.declared.Timing.{Timing}
 use Rattle.machine.specs.Inner.Memory.{RangesIn, TimingIn}
 use Rattle.before.specs.declared.Before.{Before}
@@ -62,6 +66,33 @@ pub record Prepared (k : Shape) (m : Measured) (s : State) (row work : List ℤ)
 abbrev pub PreparedBy : Shape → Measured → State → List ℤ → List ℤ → Before → Type 0
 PreparedBy k m s row work (T.Code place timing) = (place ≡ m .place) × Prepared k m s row work timing
 PreparedBy k m s row work (T.Refused number place) = place ≡ 0
+
+-- ---- a state of the image's length
+
+-- 9 and 11, then 12 of a state of so many numbers
+abbrev pub testedLength : Answer (Unit {0}) → Shape → ℕ → Answer (Unit {0})
+testedLength (refused number place) k n = refused number place
+testedLength (accepted u) k n = testedBefore (eqb n (stateLength k)) wrongLength (accepted tt)
+
+-- what was measured of an image whose states have so many numbers
+abbrev pub ShapedFor : List ℕ → ℕ → List ℤ → List ℤ → List ℤ → List ℤ → Shaped → Type 0
+ShapedFor image n low₀ high₀ low high (M.Shape m) = Measures image low₀ high₀ low high m × (n ≡ m .size)
+ShapedFor image n low₀ high₀ low high (M.Refused number place) = (refused number place ≡ testedLength (checkOf image) (shapeIn image) n) × (place ≤ imageLimit)
+
+-- an image known to be sound, what is known of its shape, and a state of its length
+pub record KnownImage (image : List ℕ) (m : Measured) (state low high : List ℤ) : Type 0 where
+  pub sound : checkOf image ≡ accepted tt
+  pub code : m .place ≡ headerOf image .place
+  pub inside : m .place ≤ length image
+  pub shape : KnownShape (shapeIn image) m low high
+  pub numbers : length state ≡ stateLength (shapeIn image)
+
+-- the same at the front of lent memory, which has room for as many numbers as the state has
+pub record KnownFront (image : List ℕ) (m : Measured) (state low high work : List ℤ) : Type 0 where
+  pub known : KnownImage image m state (take (m .size) low) (take (m .size) high)
+  pub lows : m .size ≤ length low
+  pub highs : m .size ≤ length high
+  pub copies : m .size ≤ length work
 
 -- ---- any image
 

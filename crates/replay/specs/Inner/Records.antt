@@ -10,7 +10,7 @@ use Rattle.limits.specs.Answer.{Answer, accepted, refused}
 use Rattle.semantics.specs.Formula.{State}
 use Rattle.scan.specs.Services.{AfterScan, scanOf}
 use Rattle.shapes.specs.declared.Measured.{Measured}
-use Rattle.scan.specs.Inner.Parts.{KnownImage}
+use Rattle.before.specs.Inner.Known.{KnownImage}
 use Rattle.replay.specs.declared.Cursor.{Cursor}
 use Rattle.replay.specs.Replay.{answerNumber}
 

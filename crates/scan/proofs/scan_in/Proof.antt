@@ -44,24 +44,6 @@ high-room c = omega (arith, c .before .if2 .left, c .before .before .before .bef
 work-room : (c : tie.Else3) → c .before .before .before .inputs .given .0 .1 .0 ≤ length (c .before .before .before .before .before .before .before .before .header .last .1 .1 .1 .0)
 work-room c = omega (arith, c .before .if2 .left, c .before .before .before .before .before .before .before .before .before .before .before .before .before .before .pre .copies (few c), c .before .before .before .before .before .before .before .before .header .kept .1 .1 .1 .0)
 
-slice-reshare-prefix-scan-values : tie.Need-slice-reshare-prefix-scan-values
-slice-reshare-prefix-scan-values c = low-room (c .before)
-
-slice-reshare-prefix-scan-values-2 : tie.Need-slice-reshare-prefix-scan-values-2
-slice-reshare-prefix-scan-values-2 c = high-room (c .before .before)
-
-slice-relend-prefix-scan-values : tie.Need-slice-relend-prefix-scan-values
-slice-relend-prefix-scan-values c = work-room (c .before .before .before)
-
-slice-aggregate-scan-values : tie.Need-slice-aggregate-scan-values
-slice-aggregate-scan-values c = sym (length-take-le _ _ (low-room (c .before .before)))
-
-slice-aggregate-scan-values-2 : tie.Need-slice-aggregate-scan-values-2
-slice-aggregate-scan-values-2 c = sym (length-take-le _ _ (high-room (c .before .before .before)))
-
-slice-aggregate-scan-values-3 : tie.Need-slice-aggregate-scan-values-3
-slice-aggregate-scan-values-3 c = sym (length-take-le _ _ (work-room (c .before .before .before .before)))
-
 scan-values-requires : tie.Need-scan-values-requires
 scan-values-requires c κs =
     let d = c .before .before .before .before in
@@ -86,5 +68,5 @@ scan-in-spec =
     tie.close
     (tie.spec returns (λ c κs. search needs) (λ c. search needs) (λ c. search needs) (λ c κs. search needs) (λ c. search needs) (λ c. search needs) (λ c. search needs) (λ c. search needs) returns-2
     (λ c κs. search needs) (λ c. search needs) (λ c. search needs) (λ c. search needs) (λ c. search needs) returns-3
-    slice-reshare-prefix-scan-values slice-aggregate-scan-values slice-reshare-prefix-scan-values-2 slice-aggregate-scan-values-2 slice-relend-prefix-scan-values slice-aggregate-scan-values-3
+    (λ c. low-room (c .before)) (λ c. sym (length-take-le _ _ (low-room (c .before .before)))) (λ c. high-room (c .before .before)) (λ c. sym (length-take-le _ _ (high-room (c .before .before .before)))) (λ c. work-room (c .before .before .before)) (λ c. sym (length-take-le _ _ (work-room (c .before .before .before .before))))
     scan-values-requires (λ c. search needs) (λ c. search needs) (λ c. search needs) returns-4 (λ c. search needs) (λ c. search needs) (λ c. search needs) (λ c. search needs) (λ c. search needs))

@@ -7,8 +7,9 @@ use Rattle.bytecode.specs.Parts.{shapeIn}
 use Rattle.before.specs.Before.{beforeCode}
 use Rattle.before.specs.Inner.Known.{beforeAnswer, PreparedBy}
 use Rattle.before.proofs.Begins.{before-rest}
+use Rattle.before.proofs.Stored.{known-fits}
 use Rattle.leb128.proofs.Stores.{rest-of}
-use Rattle.scan.proofs.Scans.{tests-refuse, tests-pass, known-fits, within-image}
+use Rattle.scan.proofs.Scans.{tests-refuse, tests-pass, within-image}
 use borrow.Author.Needs.{needs}
 use Rattle.scan.proofs.scan_known.Statement.{statement}
 use Rattle.scan.proofs.scan_known.Tie as tie

@@ -10,15 +10,18 @@ use Rattle.limits.specs.Answer.{Answer, accepted, refused}
 use Rattle.arith.specs.Inner.Flags.{flagsOf}
 use Rattle.semantics.specs.Program.{Range}
 use Rattle.semantics.specs.Formula.{State}
-use Rattle.semantics.specs.Shape.{Setting, stateLength}
+use Rattle.semantics.specs.Shape.{Setting}
 use Rattle.semantics.specs.ReferenceScan.{withInputs}
-use Rattle.bytecode.specs.Check.{checkHeader, checkOf}
-use Rattle.bytecode.specs.Parts.{headerOf, shapeIn, lows, highs}
+use Rattle.bytecode.specs.Check.{checkHeader}
+use Rattle.bytecode.specs.Parts.{headerOf, lows, highs}
 use Rattle.machine.specs.Step.{machine}
 use Rattle.machine.specs.Runs.{Ran, run}
-use Rattle.shapes.specs.declared.Measured.{Measured}
-use Rattle.before.specs.Inner.Known.{KnownShape}
-use Rattle.scan.specs.Services.{AfterStart, AfterScan, refusedScan, finished}
+use Rattle.shapes.specs.declared.Shaped.{Shaped}
+use Rattle.shapes.specs.declared.Shaped.the-variants as M
+use Rattle.shapes.specs.Results.{Measures}
+use Rattle.scan.specs.declared.Started.the-variants as S
+use Rattle.scan.specs.Services.{startOf, AfterScan, refusedScan, finished}
+use Rattle.scan.specs.Results.{afterStart}
 
 -- ---- the code
 
@@ -54,22 +57,9 @@ pub record KnownHeader (image : List ℕ) (place inputs names : ℕ) (low high :
   pub lowest : low ≡ lows (headerOf image .ranges)
   pub highest : high ≡ highs (headerOf image .ranges)
 
--- an image known to be sound, what is known of its shape, and a state of its length
-pub record KnownImage (image : List ℕ) (m : Measured) (state low high : List ℤ) : Type 0 where
-  pub sound : checkOf image ≡ accepted tt
-  pub code : m .place ≡ headerOf image .place
-  pub inside : m .place ≤ length image
-  pub shape : KnownShape (shapeIn image) m low high
-  pub numbers : length state ≡ stateLength (shapeIn image)
-
 -- ---- start
 
--- an image known to be sound, how many names it has, and a state of its length
-pub record Startable (image : List ℕ) (names : ℕ) (state : State) : Type 0 where
-  pub sound : checkOf image ≡ accepted tt
-  pub counted : length (headerOf image .ranges) ≡ names
-  pub numbers : length state ≡ stateLength (shapeIn image)
-
--- a start that is not refused
-abbrev pub startedWith : State → AfterStart
-startedWith left = record { answer = accepted tt; state = left }
+-- the declared starts, and what was measured of the image; or refused, as start does
+abbrev pub StartedFor : List ℕ → State → List ℤ → List ℤ → List ℤ → List ℤ → State → Shaped → Type 0
+StartedFor image found low₀ high₀ low high left (M.Shape m) = Measures image low₀ high₀ low high m × (length found ≡ m .size) × (afterStart S.Done left ≡ startOf image found)
+StartedFor image found low₀ high₀ low high left (M.Refused number place) = (afterStart (S.Refused number place) left ≡ startOf image found) × (place ≤ imageLimit)
