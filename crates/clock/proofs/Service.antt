@@ -18,7 +18,7 @@ use Rattle.lexer.specs.Names.{tableNames, idOf}
 use Rattle.semantics.specs.Program.{Program, Timer, rangesOf, firstTimer, EachTimer, TimerFits, WellFormed}
 use Rattle.semantics.specs.Shape.{shapeOf, isLimit, hasTimer, rowLength}
 use Rattle.semantics.proofs.Timers.{timer-behind}
-use Rattle.grammar.specs.Parsed.{accepted, refused}
+use Rattle.grammar.specs.Parsed.{refused}
 use Rattle.grammar.specs.Parse.{parse, programOf}
 use Rattle.grammar.proofs.Bytes.{id-of}
 use Rattle.grammar.proofs.Accepted.{parse-translatable, parse-few}
@@ -69,31 +69,22 @@ names-take text (s ∷ starts) (e ∷ ends) zero n h = refl
 names-take text (s ∷ starts) (e ∷ ends) (suc k) zero h = absurd (omega arith)
 names-take text (s ∷ starts) (e ∷ ends) (suc k) (suc n) h = ap (λ (l : List (List ℕ)). part text s e ∷ l) (names-take text starts ends k n (omega arith))
 
--- an accepted text: its program, whose inputs the table holds first
-pub record Read (text starts ends : List ℕ) (inputs timers : ℕ) : Type 0 where
-  pub program : Program
-  pub end : ℕ
-  pub parsed : parse text ≡ accepted program end
-  pub counted : inputs ≡ program .inputs
-  pub sized : rowFor inputs timers ≡ rowLength (shapeOf program)
-  pub few : inputs ≤ nameLimit
-  pub spelled : tableNames text starts ends inputs ≡ inputsOf program
+-- the program of an accepted text: its row has that length, and the table holds its inputs first
+module _ {text starts ends : List ℕ} {size inputs names timers at count : ℕ} (x : AnalysedText text (parse text) starts ends size inputs names timers at count) where
+  formed : WellFormed (x .program)
+  formed = parse-translatable text (x .program) (x .end) (x .parsed) .well-formed
 
-pub read-text : {text starts ends : List ℕ} {size inputs names timers at count : ℕ} → AnalysedText text (parse text) starts ends size inputs names timers at count → Read text starts ends inputs timers
-read-text {text} {starts} {ends} x =
-    let q = x .program in
-    let formed = parse-translatable text q (x .end) (x .parsed) .well-formed in
-    let h : q .inputs ≤ length (q .names) = subst (λ (n : ℕ). q .inputs ≤ n) (length-map (q .names) (λ n. n .range)) (formed .inputs-fit) in
-    let f = parse-few text q (x .end) (x .parsed) in
-    record {
-      program = q;
-      end = x .end;
-      parsed = x .parsed;
-      counted = x .inputs-are;
-      sized = ap₂ rowFor (x .inputs-are) (x .timed) ∙ sym (row-length q formed);
-      few = omega (arith, x .inputs-are);
-      spelled = ap (tableNames text starts ends) (x .inputs-are) ∙ (names-take text starts ends (q .inputs) (length (q .names)) h ∙ ap (take (q .inputs)) (x .held .spelled));
-    }
+  inputs-inside : x .program .inputs ≤ length (x .program .names)
+  inputs-inside = subst (λ (n : ℕ). x .program .inputs ≤ n) (length-map (x .program .names) (λ n. n .range)) (formed .inputs-fit)
+
+  row-sized : rowFor inputs timers ≡ rowLength (shapeOf (x .program))
+  row-sized = ap₂ rowFor (x .inputs-are) (x .timed) ∙ sym (row-length (x .program) formed)
+
+  pub inputs-limited : inputs ≤ nameLimit
+  inputs-limited = let f = parse-few text (x .program) (x .end) (x .parsed) in omega (arith, x .inputs-are, inputs-inside)
+
+  inputs-spelled : tableNames text starts ends inputs ≡ inputsOf (x .program)
+  inputs-spelled = ap (tableNames text starts ends) (x .inputs-are) ∙ (names-take text starts ends (x .program .inputs) (length (x .program .names)) inputs-inside ∙ ap (take (x .program .inputs)) (x .held .spelled))
 
 -- ---- the row
 
@@ -144,7 +135,7 @@ module _ (text : List ℕ) (table : List ℤ) (utc : ℤ) (row : List ℤ) where
   unfolding fillOf programOf
   text-refused k x e = (rw e, subst (Placed textLimit) e (parse-limited text) .1)
 
-  module _ {starts ends : List ℕ} {inputs timers : ℕ} (d : Read text starts ends inputs timers) where
+  module _ {starts ends : List ℕ} {size inputs names timers at count : ℕ} (d : AnalysedText text (parse text) starts ends size inputs names timers at count) where
     pub table-refused : isTable table ≡ false → afterFill (F.Refused 19 0) row ≡ fillOf text table utc row
     unfolding fillOf programOf
     table-refused e = rw (d .parsed, e)
@@ -157,15 +148,15 @@ module _ (text : List ℕ) (table : List ℤ) (utc : ℤ) (row : List ℤ) where
       module _ (now : isMinute utc ≡ true) where
         pub length-refused : (length row ≡ rowFor inputs timers → ⊥) → afterFill (F.Refused 12 0) row ≡ fillOf text table utc row
         unfolding fillOf programOf
-        length-refused e = rw (d .parsed, ok, now, ne-eqb (length row) (rowLength (shapeOf (d .program))) (λ h. e (h ∙ sym (d .sized))))
+        length-refused e = rw (d .parsed, ok, now, ne-eqb (length row) (rowLength (shapeOf (d .program))) (λ h. e (h ∙ sym (row-sized d))))
 
         pub all-filled : (front : List ℤ) → length row ≡ rowFor inputs timers → front ≡ rowFilled (tableNames text starts ends (length (take inputs row))) (entriesOf table) utc (take inputs row) → afterFill F.Done (front ++ drop inputs row) ≡ fillOf text table utc row
         unfolding fillOf programOf
         all-filled front e w =
             let k : length (take inputs row) ≡ inputs = front-length row inputs timers e in
-            let long : length (inputsOf (d .program)) ≤ length (take inputs row) = omega (arith, k, d .counted, ap length (sym (d .spelled)), names-length text starts ends inputs) in
+            let long : length (inputsOf (d .program)) ≤ length (take inputs row) = omega (arith, k, d .inputs-are, ap length (sym (inputs-spelled d)), names-length text starts ends inputs) in
             let whole : front ++ drop inputs row ≡ rowFilled (inputsOf (d .program)) (entriesOf table) utc row =
-            ap (λ (l : List ℤ). l ++ drop inputs row) (w ∙ ap (λ (l : List (List ℕ)). rowFilled l (entriesOf table) utc (take inputs row)) (ap (tableNames text starts ends) k ∙ d .spelled))
+            ap (λ (l : List ℤ). l ++ drop inputs row) (w ∙ ap (λ (l : List (List ℕ)). rowFilled l (entriesOf table) utc (take inputs row)) (ap (tableNames text starts ends) k ∙ inputs-spelled d))
             ∙ sym (front-filled (inputsOf (d .program)) (entriesOf table) utc (take inputs row) (drop inputs row) long)
             ∙ ap (rowFilled (inputsOf (d .program)) (entriesOf table) utc) (take-append-drop inputs row) in
-            rw (d .parsed, ok, now, eq-eqb (length row) (rowLength (shapeOf (d .program))) (e ∙ d .sized), whole)
+            rw (d .parsed, ok, now, eq-eqb (length row) (rowLength (shapeOf (d .program))) (e ∙ row-sized d), whole)

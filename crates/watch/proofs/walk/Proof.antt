@@ -15,7 +15,7 @@ slice-aggregate-walk-alone c =
     sym (length-take-le _ _ h)
 
 returns : tie.Need-returns
-returns c = λ w d. walk-alone-of _ (c .before .walk-alone .result) w d (c .before .before .before .before .if1 .taken) (c .before .walk-alone .ensures)
+returns c = λ w d. walk-alone-of _ _ _ _ _ (c .before .walk-alone .result) (w .first) (w .later) (d .first) (d .later) (c .before .before .before .before .if1 .taken) (c .before .walk-alone .ensures)
 
 slice-aggregate-walk-paired : tie.Need-slice-aggregate-walk-paired
 slice-aggregate-walk-paired c =
@@ -23,7 +23,7 @@ slice-aggregate-walk-paired c =
     sym (length-take-le _ _ h)
 
 returns-2 : tie.Need-returns-2
-returns-2 c = λ w d. walk-paired-of _ (c .before .walk-paired .result) w d (c .before .before .before .before .before .before .before .pre .0 .1) (c .before .before .before .before .before .if1 .left) (c .before .walk-paired .ensures)
+returns-2 c = λ w d. walk-paired-of _ _ _ _ _ (c .before .walk-paired .result) (w .first) (w .later) (d .first) (d .later) (d .ordered) (c .before .before .before .before .before .before .before .pre .0 .1) (c .before .before .before .before .before .if1 .left) (c .before .walk-paired .ensures)
 
 pub walk-spec : {M : Type 1} → statement M
 walk-spec = tie.close
