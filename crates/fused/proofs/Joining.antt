@@ -22,7 +22,7 @@ use Rattle.checker.specs.declared.advance.Walk.{Walk}
 use Rattle.checker.specs.declared.advance.Advanced.{Advanced}
 use Rattle.checker.specs.declared.advance.Advanced.the-variants.{Kept, Broken}
 use Rattle.arith.proofs.Flags.{length-flags}
-use Rattle.checker.specs.Inner.Walk.{knownOf, openOf, advancedKnown, advanceBy, Small, SmallAfter}
+use Rattle.checker.specs.Inner.Walk.{knownOf, openOf, advancedKnown, advanceBy, SmallAfter}
 use Rattle.checker.proofs.Bits.{length-sorts}
 use Rattle.checker.proofs.Walking.{judges-malformed, judges-broken}
 use Rattle.machine.specs.declared.Registers.{Registers}
@@ -96,30 +96,27 @@ module _ {low high prev cur vals : List ℤ} {b : Progress} (r : Ready low high 
     not-passing : machineOf doing vals cur ≡ machineOf (registersOf b) vals cur
     not-passing = rw go
 
-    module _ (i : Instruction) (f : fetchOne code (b .at) ≡ got i next) (inside : next ≤ length code) (e : advance i (knownOf (b .walk)) ≡ some (knownOf k)) (small : Small k) where
-      strides : Strides code (b .walk) (b .at) k next
-      strides = record { instruction = i; fetched = f; inside = inside; advanced = e; small = small }
-
-      takes : (t : Registers) → ((ns : Setting) → RangesIn (ns .ranges) low high → ok (machineOf t vals₁ cur₁) ≡ step ns prev i (machineOf doing vals cur))
+    module _ (o : Strides code (b .walk) (b .at) k next) where
+      takes : (t : Registers) → ((ns : Setting) → RangesIn (ns .ranges) low high → ok (machineOf t vals₁ cur₁) ≡ step ns prev (o .instruction) (machineOf doing vals cur))
           → Moves code low high prev b vals cur vals₁ cur₁ (record { walk = k; at = next; picked = t .picked; passing = t .passing })
       takes t a =
           record {
-            stride = strides;
+            stride = o;
             acted = λ ns q. sym (acts ns q) ∙ ap (λ (vs : List ℤ). ok (machine (t .passing) (t .picked) vs cur₁)) (aligned k (t .passing) (t .picked) (t .held) vals₁ cur₁ (matched ns q));
             opened = opens k (t .passing) (t .picked) (t .held) vals₁ cur₁ (matched (settingBy low high) here);
           }
         where
-          acts : (ns : Setting) → RangesIn (ns .ranges) low high → ok (machineOf t vals₁ cur₁) ≡ step ns prev i (machineOf (registersOf b) vals cur)
-          acts ns q = a ns q ∙ ap (λ (m : Machine). step ns prev i m) not-passing
+          acts : (ns : Setting) → RangesIn (ns .ranges) low high → ok (machineOf t vals₁ cur₁) ≡ step ns prev (o .instruction) (machineOf (registersOf b) vals cur)
+          acts ns q = a ns q ∙ ap (λ (m : Machine). step ns prev (o .instruction) m) not-passing
 
           matched : (ns : Setting) → RangesIn (ns .ranges) low high → Matches (knownOf k) (machineOf t vals₁ cur₁)
-          matched ns q = subst (λ o. KeptBy (knownOf k) o) (sym (acts ns q)) (kept i k (one-timeless code (b .at) i next f) ns q e)
+          matched ns q = subst (KeptBy (knownOf k)) (sym (acts ns q)) (kept (o .instruction) k (one-timeless code (b .at) (o .instruction) next (o .fetched)) ns q (o .advanced))
 
-      done : (s : Stepped) → ((ns : Setting) → RangesIn (ns .ranges) low high → stepOutcome s vals₁ cur₁ ≡ step ns prev i (machineOf doing vals cur))
+      done : (s : Stepped) → ((ns : Setting) → RangesIn (ns .ranges) low high → stepOutcome s vals₁ cur₁ ≡ step ns prev (o .instruction) (machineOf doing vals cur))
           → MovesBy code low high prev b vals cur vals₁ cur₁ (movedOf k next s)
       done (S.Next t) a = takes t a
       done (S.Refused number) a =
-          record { stride = strides; acted = λ ns q. sym (a ns q ∙ ap (λ (m : Machine). step ns prev i m) not-passing) }
+          record { stride = o; acted = λ ns q. sym (a ns q ∙ ap (λ (m : Machine). step ns prev (o .instruction) m) not-passing) }
 
     -- read as this instruction, with this place behind it
     pub arrives : (o : Option Instruction) → fetchOne code (b .at) ≡ decoded o next → next ≤ length code → (a : Advanced) → a ≡ Kept k → advancedKnown a ≡ advanceBy o (knownOf (b .walk)) → SmallAfter a
@@ -127,7 +124,7 @@ module _ {low high prev cur vals : List ℤ} {b : Progress} (r : Ready low high 
         → (m : Moved) → m ≡ movedOf k next s → MovesBy code low high prev b vals cur vals₁ cur₁ m
     arrives none f inside a is e small s acts m q = none≢some _ (sym e ∙ ap advancedKnown is)
     arrives (some i) f inside a is e small s acts m q =
-        subst (λ x. MovesBy code low high prev b vals cur vals₁ cur₁ x) (sym q) (done i f inside (sym e ∙ ap advancedKnown is) (subst SmallAfter is small) s acts)
+        subst (λ x. MovesBy code low high prev b vals cur vals₁ cur₁ x) (sym q) (done (record { instruction = i; fetched = f; inside = inside; advanced = sym e ∙ ap advancedKnown is; small = subst SmallAfter is small }) s acts)
 
 -- ---- the instruction at hand
 

@@ -12,8 +12,8 @@ use Rattle.arith.specs.Inner.Flags.{flagsOf}
 use Rattle.arith.specs.Values.{ok, arithmetic}
 use Rattle.semantics.specs.Formula.{State, at as valueAt}
 use Rattle.semantics.specs.Shape.{Setting}
-use Rattle.leb128.specs.Numbers.{unzigzag}
-use Rattle.bytecode.specs.Instructions.{Instruction, constant, current, previous, operation, comparison, operationOf, comparisonOf, instructionOf, hasOperand}
+use Rattle.leb128.specs.Numbers.{got, unzigzag}
+use Rattle.bytecode.specs.Instructions.{Instruction, constant, current, previous, operation, comparison, operationOf, comparisonOf, instructionOf, hasOperand, fetchOne}
 use Rattle.bytecode.specs.Check.{advance}
 use Rattle.bytecode.proofs.Codes.{operation-of, comparison-of, no-operand}
 use Rattle.bytecode.proofs.Fetching.{fetch-alone}
@@ -187,7 +187,7 @@ module _ (code : List ℕ) {low high prev cur vals : List ℤ} {b : Progress} (r
   move-three : Moves code low high prev two-on vals-two cur vals-three cur three-on
   move-three =
       let q : b .at + 4 + 1 ≡ b .at + 5 = omega arith in
-      let third = fetch-alone code (b .at + 4) (omega (arith, c .inside)) (c .made .alone) ∙ rw (c .made .listed, q) in
+      let third : fetchOne code (b .at + 4) ≡ got (c .made .acting) (b .at + 5) = fetch-alone code (b .at + 4) (omega (arith, c .inside)) (c .made .alone) ∙ rw (c .made .listed, q) in
       arrives ready-two refl code (b .at + 5) (withSort (b .walk) sort) vals-three cur (some (c .made .acting)) third (c .inside) (Kept (withSort (b .walk) sort)) refl
       (sym (c .made .moved)) sort-small (S.Next (holding (b .walk .held + 1))) (λ ns q. made-three ns) (M.On three-on) refl
 

@@ -27,7 +27,7 @@ loop-again c =
     (omega arith, storing-goes (c .before .before .loop .inv .1) _ (rw q (toZ-ofZ f)) (omega arith))
 
 returns : tie.Need-returns Inv-loop μ-loop
-returns c = storing-ends (c .before .loop .inv .1) (omega arith) (omega arith) ∙ sets-front _ _ (c .before .before .pre)
+returns c = storing-ends (c .before .loop .inv .1) (omega arith) (omega arith) ∙ sets-front (c .before .before .args .to .now) (c .before .before .args .from .now) (c .before .before .pre)
 
 pub fill-spec : {M : Type 1} → statement M
 fill-spec =
