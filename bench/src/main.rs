@@ -3,6 +3,7 @@
 //! is faster. Buffers are not cleared between calls. A scan is timed over the rows of its trace, from the declared starts.
 //!
 //!     bench [--rounds N]                            the tables
+//!     bench --services N                            the table of translate, check and scan alone, for bench/placements
 //!     bench --once WHO SERVICE INPUT CALLS          just so many calls, for bench/instructions
 //!     bench --shares                                the table of rounds of eight rule sets alone
 //!     bench --structured-text [INPUT CALLS]         the table of Structured Text alone, or so many calls of one
@@ -29,6 +30,9 @@ use once::{archive, baseline, model, Memory, Work};
 use std::hint::black_box;
 use timing::Least;
 
+// Moves the code of whatever is linked behind this crate by so many bytes (bench/placements); R: kept though nothing calls it.
+std::arch::global_asm!(".section .text.pad,\"axR\"", concat!(".skip ", env!("BENCH_PAD")), ".text");
+
 /// A service on an input, with the least time of each who can do it.
 struct Line<'i> {
     input: &'i Input,
@@ -47,6 +51,7 @@ fn main() {
     match words[..] {
         [] => tables(30),
         ["--rounds", rounds] => tables(rounds.parse().expect("a number of rounds")),
+        ["--services", rounds] => services(&inputs(), rounds.parse().expect("a number of rounds")),
         ["--shares"] => rounds::table(&inputs(), 30),
         ["--structured-text"] => structured_text::table(&inputs(), 30),
         ["--structured-text", input, calls] => structured_text::run(&inputs(), input, calls.parse().expect("a number of calls")),
@@ -62,7 +67,7 @@ fn main() {
         ["--once", who, service, input, calls] => once::run(who, service, input, calls.parse().expect("a number of calls")),
         _ => {
             eprintln!(
-                "usage: bench [--rounds N] | --shares | --structured-text [INPUT CALLS] | --watches | --timers | --once WHO SERVICE INPUT CALLS | --closed [NAME CALLS] | \
+                "usage: bench [--rounds N] | --services N | --shares | --structured-text [INPUT CALLS] | --watches | --timers | --once WHO SERVICE INPUT CALLS | --closed [NAME CALLS] | \
                  --instalments [INPUT SIZE CALLS]"
             );
             std::process::exit(2);
@@ -72,6 +77,19 @@ fn main() {
 
 fn tables(rounds: u32) {
     let inputs = inputs();
+    services(&inputs, rounds);
+    structured_text::table(&inputs, rounds);
+    instalments::table(&inputs, rounds);
+    rounds::table(&inputs, rounds);
+    refused::table(inputs.iter().find(|input| input.name == "lock").expect("the lock"), rounds);
+    closed::table(rounds);
+    rows::table(&inputs, rounds);
+    watch::table(rounds);
+    timers::table(rounds);
+}
+
+/// Translate, check and scan.
+fn services(inputs: &[Input], rounds: u32) {
     let programs: Vec<_> = inputs.iter().map(Input::program).collect();
     let natives = native::compiled(&programs);
     let mut lines = Vec::new();
@@ -88,14 +106,6 @@ fn tables(rounds: u32) {
     );
     lines.iter().for_each(Line::print);
     growth(&lines);
-    structured_text::table(&inputs, rounds);
-    instalments::table(&inputs, rounds);
-    rounds::table(&inputs, rounds);
-    refused::table(inputs.iter().find(|input| input.name == "lock").expect("the lock"), rounds);
-    closed::table(rounds);
-    rows::table(&inputs, rounds);
-    watch::table(rounds);
-    timers::table(rounds);
 }
 
 impl<'i> Line<'i> {
