@@ -1,5 +1,7 @@
 // The two lists of conditions of a change rule, compared token by token in spelling. Each answer is the place after what agrees, or a
 // refusal at the first token that is not the one wanted.
+#![tactic(auto)]
+
 ghost use Rattle.std.specs.Prelude.{cond, ◌≡◌, List, ◌≤◌, ltb, length};
 ghost use Rattle.lexer.specs.Results.{kind_of};
 ghost use Rattle.lexer.specs.Token.{kind_number, close_round, bar, last_kind};

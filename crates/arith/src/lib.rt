@@ -1,4 +1,6 @@
 // 32-bit arithmetic of document 01, worked in i64: a result is cast back only after a range test. `bits` has flags kept as bits.
+#![tactic(auto)]
+
 ghost use Rattle.std.specs.Prelude.{◌≡◌, ◌<◌, ◌^◌};
 ghost use Rattle.arith.specs.Values.{count as count_of, int32, arithmetic, add, subtract, multiply, divide, modulo, negation, compares, equal, not_equal, less, less_equal, greater, greater_equal};
 ghost use Rattle.arith.specs.Results.{outcome_of};

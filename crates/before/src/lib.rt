@@ -1,4 +1,6 @@
 // The tests of a scan before its code: 9, 11, 12, 18, 13.
+#![tactic(auto)]
+
 ghost use Rattle.std.specs.Prelude.{◌≡◌, List, ◌+◌, length};
 ghost use Rattle.limits.specs.Limits.{state_limit};
 ghost use Rattle.semantics.specs.Program.{Range};

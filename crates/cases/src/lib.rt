@@ -1,4 +1,6 @@
 // The cases of a change formula and the conditions of its no-change formula. A case is written as it is read.
+#![tactic(auto)]
+
 ghost use Rattle.std.specs.Prelude.{◌≡◌, List, [], ◌∷◌, ℕ, ◌+◌, ◌≤◌, ◌<◌, length};
 ghost use Rattle.limits.specs.Limits.{case_limit, name_limit};
 ghost use Rattle.lexer.specs.Bytes.{part};

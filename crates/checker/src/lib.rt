@@ -1,4 +1,6 @@
 // Whether an image is sound.
+#![tactic(auto)]
+
 ghost use Rattle.std.specs.Prelude.{◌≡◌, ◌≤◌, length};
 ghost use Rattle.limits.specs.Limits.{name_limit};
 ghost use Rattle.bytecode.specs.Check.{complete as completeOf, check_of};

@@ -1,4 +1,6 @@
 // The clock service: the inputs `day`, `minute` and `again` of a row, filled from a farm table and a UTC minute.
+#![tactic(auto)]
+
 ghost use Rattle.std.specs.Prelude.{◌≡◌, ◌≤◌, ◌<◌, ◌^◌, length};
 ghost use Rattle.std.specs.Int.Signed.{mag};
 ghost use Rattle.limits.specs.Limits.{name_limit};

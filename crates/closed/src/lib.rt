@@ -1,4 +1,6 @@
 // The closed profile: every in-range state scanned with every in-range row.
+#![tactic(auto)]
+
 ghost use Rattle.std.specs.Prelude.{◌≡◌, List, ◌+◌, ◌-◌, ◌*◌, ◌^◌, ◌≤◌, ◌<◌, min, length, take, drop};
 ghost use Rattle.limits.specs.Limits.{name_limit, stack_limit, combination_limit};
 ghost use Rattle.semantics.specs.Program.{Range};

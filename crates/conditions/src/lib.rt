@@ -1,5 +1,7 @@
 // Conditions, over the expressions of `expressions` and in the same way: each function takes the place where its part starts, writes
 // the part's code, and answers with the token behind it.
+#![tactic(auto)]
+
 ghost use Rattle.bytecode.specs.Instructions.{comparison_code};
 ghost use Rattle.grammar.specs.Conditions.{comparison_by, connective_code, and_of, or_of, square, whole_condition, listed};
 ghost use Rattle.grammar.specs.Inner.Bytes.{bytes_c};

@@ -1,1 +1,2 @@
 // Demands 2 and 3 and the worked examples. Definitions and laws only.
+#![tactic(auto)]

@@ -1,1 +1,2 @@
 // Scans in instalments are scans: definitions and laws only.
+#![tactic(auto)]

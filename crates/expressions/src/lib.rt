@@ -1,5 +1,7 @@
 // Expressions: a recursive descent that writes the code of what it reads. Each function takes the place where its part starts, and
 // answers with the token behind the part, so that its caller need not read that token again.
+#![tactic(auto)]
+
 ghost use Rattle.std.specs.Prelude.{◌≡◌, ◌∷◌, ℕ, ◌+◌, ◌^◌, ◌<◌, length};
 ghost use Rattle.std.proofs.lemmas.List.Edits.{sets};
 ghost use Rattle.leb128.specs.Numbers.{number as numberBytes};

@@ -1,1 +1,2 @@
 // Refusals stated a second time. Definitions and laws only.
+#![tactic(auto)]

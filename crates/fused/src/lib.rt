@@ -1,5 +1,7 @@
 // Check and run in one pass over the code: each instruction is read once, moves the walk and is done. Where it breaks soundness the place is
 // answered; where the machine refuses it, the walk alone goes on, since an instruction behind that breaks soundness comes first.
+#![tactic(auto)]
+
 ghost use Rattle.std.specs.Prelude.{◌≡◌, true, false, ◌+◌, ◌≤◌, ◌<◌, length};
 ghost use Rattle.limits.specs.Limits.{name_limit, stack_limit};
 ghost use Rattle.leb128.specs.Numbers.{number_at};

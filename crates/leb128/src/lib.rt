@@ -1,4 +1,6 @@
 // Numbers in groups of seven bits (unsigned LEB128, shortest form only), zigzag for signed ones.
+#![tactic(auto)]
+
 ghost use Rattle.std.specs.Prelude.{◌≡◌, ◌+◌, ◌<◌, ◌^◌, length, set};
 ghost use Rattle.std.proofs.lemmas.List.Edits.{sets};
 ghost use Rattle.leb128.specs.Numbers.{number, found, below32, number_at, signed_at, zigzag as zigzagOf, unzigzag as unzigzagOf};

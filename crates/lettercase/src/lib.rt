@@ -1,1 +1,2 @@
 // Texts whose names are in other letter cases. Definitions and laws only.
+#![tactic(auto)]

@@ -1,4 +1,6 @@
 // A scan in instalments finished and started, and a row posted for the next one, on the lent memory of `paused`.
+#![tactic(auto)]
+
 ghost use Rattle.std.specs.Prelude.{◌≡◌, cond, ◌+◌, ◌≤◌, ◌<◌, ◌^◌, eqb, ltb, pos, length, take, set};
 ghost use Rattle.paused.specs.Responses.{ResponseWithin};
 ghost use Rattle.before.specs.Before.{tested_before};

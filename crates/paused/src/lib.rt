@@ -1,4 +1,6 @@
 // The memory of a paused scan and of the row that waits: 640 numbers, lent as one slice. Whatever it holds, each number read from it is clipped.
+#![tactic(auto)]
+
 ghost use Rattle.std.specs.Prelude.{◌≡◌, ◌≤◌, ◌<◌, ◌^◌, min, pos, length};
 ghost use Rattle.std.proofs.lemmas.List.Edits.{sets};
 ghost use Rattle.limits.specs.Limits.{image_limit, paused_length};

@@ -1,4 +1,6 @@
 // Fixed tokens of the rule forms: each is taken out of its answer, and a refusal is passed on.
+#![tactic(auto)]
+
 ghost use Rattle.std.specs.Prelude.{◌≡◌, [], ◌∷◌, ◌≤◌};
 ghost use Rattle.lexer.specs.Bytes.{part};
 ghost use Rattle.lexer.specs.Results.{kind_of};

@@ -1,4 +1,6 @@
 // Translation, start and a list of rows in one call, with records of each scan.
+#![tactic(auto)]
+
 ghost use Rattle.std.specs.Prelude.{◌≡◌, List, ℕ, ◌≤◌, length, set};
 ghost use Rattle.limits.specs.Limits.{state_limit, stack_limit};
 ghost use Rattle.scan.specs.Services.{start_of};

@@ -1,4 +1,6 @@
 // A scan in instalments, on the lent memory of `paused`.
+#![tactic(auto)]
+
 ghost use Rattle.std.specs.Prelude.{◌≡◌, cond, ◌≤◌, leb, length};
 ghost use Rattle.paused.specs.Memory.{layout_of};
 ghost use Rattle.paused.specs.Responses.{ResponseWithin};

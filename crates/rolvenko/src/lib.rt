@@ -1,4 +1,6 @@
 // The services as C functions. include/rolvenko.h declares them.
+#![tactic(auto)]
+
 ghost use Rattle.std.specs.Prelude.{◌≡◌};
 ghost use Rattle.bytecode.specs.Check.{check_of};
 ghost use Rattle.scan.specs.Services.{start_of, scan_of};

@@ -1,5 +1,7 @@
 // Shares for several rule sets: a visit to one, on its image, its state and the memory of its paused scan; a round of visits in order, over
 // memory lent for all of them together.
+#![tactic(auto)]
+
 ghost use Rattle.std.specs.Prelude.{◌≡◌, [], ◌∷◌, ◌+◌, ◌≤◌, length, set};
 ghost use Rattle.limits.specs.Limits.{image_limit};
 ghost use Rattle.paused.specs.Responses.{packed_response, steps_in, ResponseWithin};

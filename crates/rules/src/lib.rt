@@ -1,4 +1,6 @@
 // The rules of a text: functions, change formulas with their no-change formulas, and pairs of a rising and a falling formula. A rule is written as it is read.
+#![tactic(auto)]
+
 ghost use Rattle.std.specs.Prelude.{◌≡◌, List, [], ◌≤◌, ◌<◌};
 ghost use Rattle.limits.specs.Limits.{name_limit};
 ghost use Rattle.grammar.specs.Parsed.{item_bound};

@@ -1,4 +1,6 @@
 // Starting and scanning an image: the services start and scan.
+#![tactic(auto)]
+
 ghost use Rattle.std.specs.Prelude.{◌≡◌, true, false, ◌≤◌, pos, length, replicate};
 ghost use Rattle.std.proofs.lemmas.List.Edits.{sets};
 ghost use Rattle.limits.specs.Limits.{image_limit, name_limit, state_limit, stack_limit};

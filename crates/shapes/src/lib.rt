@@ -1,4 +1,6 @@
 // The shape of an image's states: how many numbers they have, which names are timers, and the range of each number.
+#![tactic(auto)]
+
 ghost use Rattle.std.specs.Prelude.{false, ◌≡◌, ℕ, ◌^◌, ◌≤◌, ◌<◌, pos, length, get_or, set, replicate};
 ghost use Rattle.limits.specs.Limits.{name_limit, time_limit};
 ghost use Rattle.limits.specs.Answer.{accepted};

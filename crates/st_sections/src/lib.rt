@@ -1,5 +1,7 @@
 // The parts of Structured Text around the rules, put directly before a place: the sections VAR_INPUT and VAR, and the lines that save the
 // previous values.
+#![tactic(auto)]
+
 ghost use Rattle.std.specs.Prelude.{◌≡◌, List, [], ◌++◌, map, ℕ, ◌≤◌, length, get_or, take, drop};
 ghost use Rattle.lexer.specs.Bytes.{bytes};
 ghost use Rattle.lexer.specs.Names.{table_names, Table};

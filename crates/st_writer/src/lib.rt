@@ -1,5 +1,7 @@
 // Structured Text put directly before a place, right to left, as far as there is room: bytes, numbers and names here; the rules of a program
 // from their mirrored code in `operands` and `statements`.
+#![tactic(auto)]
+
 ghost use Rattle.std.specs.Prelude.{◌≡◌, List, [], ◌∷◌, ◌++◌, ℕ, ◌≤◌, length, get_or, take};
 ghost use Rattle.semantics.specs.Program.{Program};
 ghost use Rattle.bytecode.specs.Instructions.{encode_all};

@@ -1,5 +1,7 @@
 // The service that writes Structured Text: one descent over the text makes its image in memory of its own; the print goes over the image's
 // code from its end, once to measure and once into the lent buffer. A refused text so never touches the buffer.
+#![tactic(auto)]
+
 ghost use Rattle.std.specs.Prelude.{◌≡◌, [], ◌+◌, ◌*◌, ◌≤◌, length};
 ghost use Rattle.limits.specs.Limits.{text_limit, name_limit};
 ghost use Rattle.lexer.specs.Names.{table_names, Table};

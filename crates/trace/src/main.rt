@@ -1,5 +1,7 @@
 // The trace program: standard input holds a text, the line `#`, then one row a line; standard output gets the trace. What is printed
 // is the work of `tracer`; this only reads, writes and tells a failure.
+#![tactic(auto)]
+
 ghost use Rattle.std.specs.Prelude.{◌≤◌, ◌≡◌, true, length};
 ghost use Rattle.tracer.specs.Session.{session_of, fed_over};
 

@@ -1,5 +1,7 @@
 // Rows from lines and decimal printing: what the program `trace` needs that is no service. Standard input and its lines have no
 // limit, so what is read is a state carried from byte to byte.
+#![tactic(auto)]
+
 ghost use Rattle.std.specs.Prelude.{◌≡◌, true, ◌+◌, ◌≤◌, drop, set};
 ghost use Rattle.std.proofs.lemmas.List.Edits.{sets};
 ghost use Rattle.trace_text.specs.Row.{long_row};

@@ -1,4 +1,6 @@
 // The trace program without its input and output: it is fed standard input in parts, and puts out the bytes to print.
+#![tactic(auto)]
+
 ghost use Rattle.std.specs.Prelude.{◌≤◌, ◌≡◌, false, List, ℤ, length, take};
 ghost use Rattle.limits.specs.Limits.{state_limit};
 ghost use Rattle.limits.specs.Answer.{accepted};

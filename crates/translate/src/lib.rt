@@ -1,5 +1,7 @@
 // The translate service: one descent that checks the text and makes its image in memory of its own, which is then stored where it fits.
 // A refused text so never touches the lent buffer.
+#![tactic(auto)]
+
 ghost use Rattle.std.specs.Prelude.{◌≡◌, [], ◌++◌, ◌+◌, ◌*◌, ◌≤◌, ◌<◌, length, drop};
 ghost use Rattle.limits.specs.Limits.{text_limit};
 ghost use Rattle.arith.specs.Inner.Flags.{flags_of};

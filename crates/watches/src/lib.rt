@@ -1,4 +1,6 @@
 // Watches: `watch: G([c]);` and `watch: G([c] -> X([c]));`. The code of a watch's conditions is written as they are read.
+#![tactic(auto)]
+
 ghost use Rattle.std.specs.Prelude.{List, [], ℕ};
 ghost use Rattle.limits.specs.Limits.{watch_limit};
 ghost use Rattle.semantics.specs.Program.{Condition};

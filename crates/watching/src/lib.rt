@@ -1,1 +1,2 @@
 // What a watch formula reports of a trace. Definitions and laws only.
+#![tactic(auto)]

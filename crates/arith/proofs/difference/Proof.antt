@@ -6,7 +6,7 @@ use Rattle.arith.proofs.Laws.{widens, sub_fits, op_fits, op_is}
 use Rattle.arith.proofs.difference.Statement.{statement}
 use Rattle.arith.proofs.difference.Tie as tie
 
-sub-result : tie.Need-overflow-sub-result
+sub-result : tie.Need-overflow_sub-result
 sub-result c = let f = c.ranges in op_fits ◌-ℤ◌ f.a f.b (sub_fits f.a f.b)
 
 returns : tie.Need-returns

@@ -8,7 +8,7 @@ use Rattle.arith.proofs.Laws.{widens, widened, neg_fits}
 use Rattle.arith.proofs.negated.Statement.{statement}
 use Rattle.arith.proofs.negated.Tie as tie
 
-sub_narrow : tie.Need-overflow-sub-narrow
+sub_narrow : tie.Need-overflow_sub-x
 sub_narrow c = rw (widened c.ranges.a, +ℤ_idl) (neg_fits c.ranges.a c.ranges.a)
 
 returns : tie.Need-returns

@@ -6,7 +6,7 @@ use Rattle.arith.proofs.Laws.{widens, mul_fits, op_fits, op_is}
 use Rattle.arith.proofs.product.Statement.{statement}
 use Rattle.arith.proofs.product.Tie as tie
 
-mul-result : tie.Need-overflow-mul-result
+mul-result : tie.Need-overflow_mul-result
 mul-result c = let f = c.ranges in op_fits ◌*ℤ◌ f.a f.b (mul_fits f.a f.b)
 
 returns : tie.Need-returns

@@ -6,7 +6,7 @@ use Rattle.arith.proofs.Laws.{widens, add_fits, op_fits, op_is}
 use Rattle.arith.proofs.sum.Statement.{statement}
 use Rattle.arith.proofs.sum.Tie as tie
 
-add-result : tie.Need-overflow-add-result
+add-result : tie.Need-overflow_add-result
 add-result c = let f = c.ranges in op_fits ◌+ℤ◌ f.a f.b (add_fits f.a f.b)
 
 returns : tie.Need-returns

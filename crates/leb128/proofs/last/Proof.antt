@@ -10,27 +10,27 @@ use Rattle.leb128.proofs.Laws.{low_below, joined_large}
 use Rattle.leb128.proofs.last.Statement.{statement}
 use Rattle.leb128.proofs.last.Tie as tie
 
-returns : tie.Need-returns
+returns : tie.Need-returns-then-v-ge4294967296
 returns c =
-    let a = c.before.args in
+    let a = c.args in
     sym (joined_large a.low a.scale a.b a.at 1 (omega arith))
 
-returns-2 : tie.Need-returns-2
+returns-2 : tie.Need-returns-then-b-ge1
 unfolding joined_groups below32
 returns-2 c =
-    let a = c.before.before.args in
+    let a = c.args in
     rw (le-leb 1 a.b (omega arith), lt-ltb (a.low + a.b * a.scale) (2 ^ 32) (omega arith))
 
-returns-3 : tie.Need-returns-3
+returns-3 : tie.Need-returns-then-scale-eq1
 unfolding joined_groups below32
 returns-3 c =
-    let a = c.before.before.before.args in
+    let a = c.args in
     rw (lt-leb 1 a.b (omega arith), eq-eqb a.scale 1 (omega arith), lt-ltb (a.low + a.b * a.scale) (2 ^ 32) (omega arith))
 
-returns-4 : tie.Need-returns-4
+returns-4 : tie.Need-returns
 unfolding joined_groups below32
 returns-4 c =
-    let a = c.before.before.before.args in
+    let a = c.args in
     rw (lt-leb 1 a.b (omega arith), ne_eqb a.scale 1 (λ e. omega arith))
 
 pub last_spec : {M : Type 1} → statement M

@@ -8,8 +8,8 @@ use Rattle.leb128.proofs.put_byte.Statement.{statement}
 use Rattle.leb128.proofs.put_byte.Tie as tie
 
 -- the list where the branches meet
-stored : (c : tie.Joined1) → c.if1.out ≡ set c.before.args.out.now c.before.args.at c.before.args.b
-stored c = ⊎_elim (λ w. w.1) (λ w. w.1 ∙ sym (set_out _ _ _ w.0.left)) c.if1.branch
+stored : (c : tie.Joined-at-out) → c.if-at-out.out ≡ set c.args.out.now c.args.at c.args.b
+stored c = ⊎_elim (λ w. w.1) (λ w. w.1 ∙ sym (set_out _ _ _ w.0.left)) c.if-at-out.branch-raw
 
 pub put_byte_spec : {M : Type 1} → statement M
 put_byte_spec = tie.close (tie.spec (λ c. search rules) (λ c. search rules) (λ c. ap length (stored c) ∙ simp length-set) (λ c. (refl, stored c)))

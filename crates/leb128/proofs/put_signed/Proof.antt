@@ -6,7 +6,7 @@ use Rattle.leb128.proofs.put_signed.Tie as tie
 
 returns : tie.Need-returns
 returns c =
-    rw (same32 c.before.before.before.before.before.before.ranges.z) at (rw c.before.before.before.zigzag.ensures.0 at c.before.before.put-unsigned.ensures)
+    rw (same32 c.ranges.z) at (rw c.zigzag.ensures.0 at c.put_unsigned.ensures)
 
 pub put_signed_spec : {M : Type 1} → statement M
 put_signed_spec = tie.close (tie.spec (λ c κs. search rules) (λ c κs. search rules) (λ c. search rules) returns)

@@ -12,40 +12,40 @@ use Rattle.leb128.proofs.Laws.{groups_one, groups_more, at_most_five}
 use Rattle.leb128.proofs.put_unsigned.Statement.{statement}
 use Rattle.leb128.proofs.put_unsigned.Tie as tie
 
-abbrev invariant_loop : tie.invariant_loop
+abbrev invariant_loop : tie.invariant-loop-rest
 invariant_loop out₀ at n rest₀ i₀ out rest i =
     (rest < 2 ^ 32) × (i + length (number rest) ≡ at + length (number n)) × (sets out i (number rest) ≡ sets out₀ at (number n))
 
-abbrev decreases_loop : tie.decreases_loop
+abbrev decreases_loop : tie.decreases-loop-rest
 decreases_loop out₀ at n rest₀ i₀ out rest i = rest
 
-put-byte-requires : tie.Need-put-byte-requires invariant_loop decreases_loop
-put-byte-requires c κs = omega (arith, at_most_five c.before.before.before.before.args.n, c.before.before.loop.invariant.1)
+put-byte-requires : tie.Need-put_byte-i-requires invariant_loop decreases_loop
+put-byte-requires c κs = omega (arith, at_most_five c.args.n, c.loop-rest.invariant.1)
 
-loop-again : tie.Need-loop-preserved invariant_loop decreases_loop
+loop-again : tie.Need-loop-rest-preserved invariant_loop decreases_loop
 loop-again c =
-    let l = c.before.before.before.before.before.loop in
-    let p = c.before.before.put_byte in
-    let more = groups_more l.rest l.invariant.0 c.before.before.before.before.loop-test.true in
+    let l = c.loop-rest in
+    let p = c.put_byte-i in
+    let more = groups_more l.rest l.invariant.0 c.loop-rest-test.true in
     let longer : length (number l.rest) ≡ length (number (l.rest / 128)) + 1 = rw (more, add-one) in
     (omega arith, omega arith, rw (p.ensures.1, p.ensures.0, add-one) (rw more at l.invariant.2))
 
-put-byte-requires-2 : tie.Need-put-byte-requires-2 invariant_loop decreases_loop
-put-byte-requires-2 c κs = omega (arith, at_most_five c.before.before.before.before.args.n, c.before.before.loop.invariant.1)
+put-byte-requires-2 : tie.Need-put_byte-requires invariant_loop decreases_loop
+put-byte-requires-2 c κs = omega (arith, at_most_five c.args.n, c.loop-rest.invariant.1)
 
 -- the list at the end
-stored : (c : tie.After-slice-known3 invariant_loop decreases_loop) →
+stored : (c : tie.After-slice_known-2-1 invariant_loop decreases_loop) →
     let s = c.before.before.before.before.before.before.before in
-    c.before.before.put-byte2.new.0 ≡ sets s.args.out.now s.args.at (number s.args.n)
+    c.put_byte.new.out ≡ sets s.args.out.now s.args.at (number s.args.n)
 stored c =
-    let l = c.before.before.before.before.before.loop in
-    let e = groups_one l.rest c.before.before.before.before.loop-test.false in
-    c.before.before.put-byte2.ensures.1 ∙ (rw e at l.invariant.2)
+    let l = c.loop-rest in
+    let e = groups_one l.rest c.loop-rest-test.false in
+    c.put_byte.ensures.1 ∙ (rw e at l.invariant.2)
 
 returns : tie.Need-returns invariant_loop decreases_loop
 returns c =
-    let l = c.before.before.before.before.before.loop in
-    let e = groups_one l.rest c.before.before.before.before.loop-test.false in
+    let l = c.loop-rest in
+    let e = groups_one l.rest c.loop-rest-test.false in
     let one : length (number l.rest) ≡ 1 = rw e in
     (omega arith, stored c)
 

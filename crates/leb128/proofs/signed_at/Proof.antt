@@ -16,20 +16,20 @@ use Rattle.leb128.proofs.signed_at.Tie as tie
 abbrev signed : Read ℕ → Read ℤ
 signed r = r then λ u next. got (unzigzag u) next
 
-returns : tie.Need-returns
+returns : tie.Need-returns-in_default
 unfolding signed_at
-returns c = ap signed (sym (ap unsigned_read c.enum_told.given.1) ∙ c.before.before.unsigned-at.ensures)
+returns c = ap signed (sym (ap unsigned_read c.in_default.is) ∙ c.unsigned_at.ensures)
 
 unzigzag-requires : tie.Need-unzigzag-requires
 unzigzag-requires c κs =
-    subst Below32 (sym c.before.before.before.unsigned-at.ensures ∙ ap unsigned_read c.before.u.given.1) (below _ _)
+    subst Below32 (sym c.unsigned_at.ensures ∙ ap unsigned_read c.in-Number.is) (below _ _)
 
-returns-2 : tie.Need-returns-2
+returns-2 : tie.Need-returns
 unfolding signed_at
 returns-2 c =
     let f : SFits w32 c.unzigzag.result = search rules in
     rw (to_z-of_z {w = w32} f, c.unzigzag.ensures)
-    (ap signed (sym (ap unsigned_read c.before.before.u.given.1) ∙ c.before.before.before.before.unsigned-at.ensures))
+    (ap signed (sym (ap unsigned_read c.in-Number.is) ∙ c.unsigned_at.ensures))
 
 pub signed_at_spec : {M : Type 1} → statement M
 signed_at_spec = tie.close (tie.spec (λ c κs. search rules) (λ c. search rules) (λ c. search rules) returns unzigzag-requires returns-2)

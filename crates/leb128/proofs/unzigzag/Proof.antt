@@ -19,17 +19,17 @@ half u h = omega arith
 half_fits : (u : ℕ) → u < 2 ^ 32 → SFits w32 (negsuc (u / 2))
 half_fits u h = record { sfits = half u h }
 
-returns : tie.Need-returns
+returns : tie.Need-returns-then-u-eq0
 unfolding unzigzagOf
-returns c = rw (to_z_pos w32 (half _ c.before.requires), eq-eqb _ _ c.if1.true)
+returns c = rw (to_z_pos w32 (half _ c.requires), eq-eqb _ _ c.if-u-eq0.true)
 
-sub-result : tie.Need-overflow-sub-result
-sub-result c = rw (to_z_pos w32 (half _ c.before.requires), mirror_pos) (half_fits _ c.before.requires)
+sub-result : tie.Need-overflow_sub-result
+sub-result c = rw (to_z_pos w32 (half _ c.requires), mirror_pos) (half_fits _ c.requires)
 
-returns-2 : tie.Need-returns-2
+returns-2 : tie.Need-returns
 unfolding unzigzagOf
 returns-2 c =
-    rw (to_z_pos w32 (half _ c.before.requires), mirror_pos, same32 (half_fits _ c.before.requires), ne_eqb _ _ c.if1.false)
+    rw (to_z_pos w32 (half _ c.requires), mirror_pos, same32 (half_fits _ c.requires), ne_eqb _ _ c.if-u-eq0.false)
 
 pub unzigzag_spec : {M : Type 1} → statement M
 unzigzag_spec = tie.close (tie.spec (λ c. search rules) returns sub-result returns-2)

@@ -15,53 +15,53 @@ use Rattle.leb128.proofs.zigzag.Statement.{statement}
 use Rattle.leb128.proofs.zigzag.Tie as tie
 
 -- z ≥ 0: what is read is the number n = z
-at_pos : (c : tie.Then1) → c.before.args.z ≡ pos (mag c.before.args.z)
-at_pos c = not_below _ (rw (same32 c.before.ranges.z) at c.if1.true)
+at_pos : (c : tie.Then-z-ge0) → c.args.z ≡ pos (mag c.args.z)
+at_pos c = not_below _ (rw (same32 c.ranges.z) at c.if-z-ge0.true)
 
-read : (c : tie.Then1) → to_z w32 (of_z w32 c.before.args.z) ≡ pos (mag c.before.args.z)
-read c = same32 c.before.ranges.z ∙ at_pos c
+read : (c : tie.Then-z-ge0) → to_z w32 (of_z w32 c.args.z) ≡ pos (mag c.args.z)
+read c = same32 c.ranges.z ∙ at_pos c
 
 -- z < 0: what is read of -1 - z is the number n with z = -(n + 1)
-at_neg : (c : tie.Else1) → c.before.args.z ≡ negsuc (mag c.before.args.z)
-at_neg c = is_below _ (rw (same32 c.before.ranges.z) at c.if1.false)
+at_neg : (c : tie.Else-z-ge0) → c.args.z ≡ negsuc (mag c.args.z)
+at_neg c = is_below _ (rw (same32 c.ranges.z) at c.if-z-ge0.false)
 
-mirrored : (c : tie.Else1) → negsuc 0 -ℤ to_z w32 (of_z w32 c.before.args.z) ≡ pos (mag c.before.args.z)
-mirrored c = ap (λ (z : ℤ). negsuc 0 -ℤ z) (same32 c.before.ranges.z ∙ at_neg c) ∙ mirror_negsuc _
+mirrored : (c : tie.Else-z-ge0) → negsuc 0 -ℤ to_z w32 (of_z w32 c.args.z) ≡ pos (mag c.args.z)
+mirrored c = ap (λ (z : ℤ). negsuc 0 -ℤ z) (same32 c.ranges.z ∙ at_neg c) ∙ mirror_negsuc _
 
 fits_pos : {z : ℤ} → SFits w32 z → SFits w32 (pos (mag z))
 fits_pos f = record { sfits = f.sfits }
 
-read_2 : (c : tie.Else1) → to_z w32 (of_z w32 (negsuc 0 -ℤ to_z w32 (of_z w32 c.before.args.z))) ≡ pos (mag c.before.args.z)
-read_2 c = rw (mirrored c) (same32 (fits_pos c.before.ranges.z))
+read_2 : (c : tie.Else-z-ge0) → to_z w32 (of_z w32 (negsuc 0 -ℤ to_z w32 (of_z w32 c.args.z))) ≡ pos (mag c.args.z)
+read_2 c = rw (mirrored c) (same32 (fits_pos c.ranges.z))
 
-cast-result : tie.Need-overflow-cast-result
-cast-result c = rw (read c) (tt, omega (arith, c.before.ranges.z.sfits))
+cast-result : tie.Need-overflow_cast-result
+cast-result c = rw (read c) (tt, omega (arith, c.ranges.z.sfits))
 
-mul-result : tie.Need-overflow-mul-result
-mul-result c = rw (read c) (omega (arith, c.before.ranges.z.sfits))
+mul-result : tie.Need-overflow_mul-result
+mul-result c = rw (read c) (omega (arith, c.ranges.z.sfits))
 
-returns : tie.Need-returns
+returns : tie.Need-returns-then-z-ge0
 unfolding zigzagOf
 returns c =
-    let e : zigzagOf c.before.args.z ≡ 2 * mag c.before.args.z = ap zigzagOf (at_pos c) in
+    let e : zigzagOf c.args.z ≡ 2 * mag c.args.z = ap zigzagOf (at_pos c) in
     rw (read c, e) (omega arith)
 
-sub-n : tie.Need-overflow-sub-n
-sub-n c = rw (mirrored c) (fits_pos c.before.ranges.z)
+sub-n : tie.Need-overflow_sub-n
+sub-n c = rw (mirrored c) (fits_pos c.ranges.z)
 
-cast-result-2 : tie.Need-overflow-cast-result-2
-cast-result-2 c = rw (read_2 c) (tt, omega (arith, c.before.ranges.z.sfits))
+cast-result-2 : tie.Need-overflow_cast-result-2
+cast-result-2 c = rw (read_2 c) (tt, omega (arith, c.ranges.z.sfits))
 
-mul-result-2 : tie.Need-overflow-mul-result-2
-mul-result-2 c = rw (read_2 c) (omega (arith, c.before.ranges.z.sfits))
+mul-result-2 : tie.Need-overflow_mul-result-2
+mul-result-2 c = rw (read_2 c) (omega (arith, c.ranges.z.sfits))
 
-add-result : tie.Need-overflow-add-result
-add-result c = rw (read_2 c) (omega (arith, c.before.ranges.z.sfits))
+add-result : tie.Need-overflow_add-result
+add-result c = rw (read_2 c) (omega (arith, c.ranges.z.sfits))
 
-returns-2 : tie.Need-returns-2
+returns-2 : tie.Need-returns
 unfolding zigzagOf
 returns-2 c =
-    let e : zigzagOf c.before.args.z ≡ 2 * mag c.before.args.z + 1 = ap zigzagOf (at_neg c) in
+    let e : zigzagOf c.args.z ≡ 2 * mag c.args.z + 1 = ap zigzagOf (at_neg c) in
     rw (read_2 c, e) (omega arith)
 
 pub zigzag_spec : {M : Type 1} → statement M

@@ -10,47 +10,47 @@ use Rattle.lexer.proofs.Table.{id_start, id_here, id_next, id_none}
 use Rattle.lexer.proofs.find.Statement.{statement}
 use Rattle.lexer.proofs.find.Tie as tie
 
-abbrev invariant_loop : tie.invariant_loop
+abbrev invariant_loop : tie.invariant-loop-i
 invariant_loop text starts ends count spelled i₀ i = id_from (table_names text (drop i starts) (drop i ends) (count - i)) spelled i ≡ id_of (table_names text starts ends count) spelled
 
-abbrev decreases_loop : tie.decreases_loop
+abbrev decreases_loop : tie.decreases-loop-i
 decreases_loop text starts ends count spelled i₀ i = count - i
 
-mul-s : tie.Need-overflow-mul-s invariant_loop decreases_loop
+mul-s : tie.Need-offset_bounds-starts-i invariant_loop decreases_loop
 mul-s c =
     let start = c.before.before.before.before.before.before in
     omega (arith, start.well_formed.1.0.1, start.requires.in_starts)
 
-shared-slice-read-s : tie.Need-shared-slice-read-s invariant_loop decreases_loop
-shared-slice-read-s c = omega (arith, c.before.before.before.before.before.before.before.requires.in_starts)
+shared-slice-read-s : tie.Need-bounds-starts-i invariant_loop decreases_loop
+shared-slice-read-s c = omega (arith, c.requires.in_starts)
 
-mul-e : tie.Need-overflow-mul-e invariant_loop decreases_loop
+mul-e : tie.Need-offset_bounds-ends-i invariant_loop decreases_loop
 mul-e c =
     let start = c.before.before.before.before.before.before.before in
     omega (arith, start.well_formed.1.1.0.1, start.requires.in_ends)
 
-shared-slice-read-e : tie.Need-shared-slice-read-e invariant_loop decreases_loop
-shared-slice-read-e c = omega (arith, c.before.before.before.before.before.before.before.before.requires.in_ends)
+shared-slice-read-e : tie.Need-bounds-ends-i invariant_loop decreases_loop
+shared-slice-read-e c = omega (arith, c.requires.in_ends)
 
-returns : tie.Need-returns invariant_loop decreases_loop
+returns : tie.Need-returns-then-same_name invariant_loop decreases_loop
 returns c =
     let l = c.before.before.before.before.before in
     let at-loop = l.before in
-    sym (id_here _ _ _ _ _ at-loop.before.before.before.before.before.requires _ l.loop-test.true
-    (ap (same_name _) (sym c.before.before.name.ensures) ∙ sym c.before.same_name_lem.ensures ∙ c.if1.true)) ∙ at-loop.loop.invariant
+    sym (id_here _ _ _ _ _ at-loop.requires _ l.loop-i-test.true
+    (ap (same_name _) (sym c.name.ensures) ∙ sym c.same_name.ensures ∙ c.if-same_name.true)) ∙ at-loop.loop-i.invariant
 
-add-i : tie.Need-overflow-add-i invariant_loop decreases_loop
-add-i c = omega (arith, c.before.before.before.before.before.before.before.before.before.before.before.requires.in_starts)
+add-i : tie.Need-overflow_add-i invariant_loop decreases_loop
+add-i c = omega (arith, c.requires.in_starts)
 
-loop-again : tie.Need-loop-preserved invariant_loop decreases_loop
+loop-again : tie.Need-loop-i-preserved invariant_loop decreases_loop
 loop-again c =
     let l = c.before.before.before.before.before in
     let at-loop = l.before in
-    sym (id_next _ _ _ _ _ at-loop.before.before.before.before.before.requires _ l.loop-test.true
-    (ap (same_name _) (sym c.before.before.name.ensures) ∙ sym c.before.same_name_lem.ensures ∙ c.if1.false)) ∙ at-loop.loop.invariant
+    sym (id_next _ _ _ _ _ at-loop.requires _ l.loop-i-test.true
+    (ap (same_name _) (sym c.name.ensures) ∙ sym c.same_name.ensures ∙ c.if-same_name.false)) ∙ at-loop.loop-i.invariant
 
-returns-2 : tie.Need-returns-2 invariant_loop decreases_loop
-returns-2 c = sym (id_none _ _ _ _ _ c.before.before.before.before.before.before.requires _ c.loop-test.false) ∙ c.before.loop.invariant
+returns-2 : tie.Need-returns invariant_loop decreases_loop
+returns-2 c = sym (id_none _ _ _ _ _ c.requires _ c.loop-i-test.false) ∙ c.loop-i.invariant
 
 pub find_spec : {M : Type 1} → statement M
 find_spec =

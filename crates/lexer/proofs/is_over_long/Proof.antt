@@ -7,11 +7,11 @@ use Rattle.lexer.specs.Lexer.{over_long}
 use Rattle.lexer.proofs.is_over_long.Statement.{statement}
 use Rattle.lexer.proofs.is_over_long.Tie as tie
 
-returns : tie.Need-returns
+returns : tie.Need-returns-then-end-start
 unfolding over_long
-returns c = let z : c.before.args.end - c.before.args.start ≡ 0 = omega arith in rw z
+returns c = let z : c.args.end - c.args.start ≡ 0 = omega arith in rw z
 
-returns-2 : tie.Need-returns-2
+returns-2 : tie.Need-returns
 unfolding over_long
 returns-2 c = refl
 

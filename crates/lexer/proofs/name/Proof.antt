@@ -6,17 +6,17 @@ use Rattle.lexer.proofs.Values.{part_none, part_out, part_over}
 use Rattle.lexer.proofs.name.Statement.{statement}
 use Rattle.lexer.proofs.name.Tie as tie
 
-returns-2 : tie.Need-returns-2
+returns-2 : tie.Need-returns-then-end-length
 returns-2 c =
     let start-2 = c.before.before.before in
     sym (part_none start-2.args.text.now start-2.args.start start-2.args.end (omega arith))
 
-returns-3 : tie.Need-returns-3
+returns-3 : tie.Need-returns-then-start-length
 returns-3 c =
     let start-2 = c.before.before.before in
     sym (part_over start-2.args.text.now start-2.args.start start-2.args.end (omega arith))
 
-returns-4 : tie.Need-returns-4
+returns-4 : tie.Need-returns
 returns-4 c =
     let start-2 = c.before.before.before in
     sym (part_out start-2.args.text.now start-2.args.start start-2.args.end (omega arith))

@@ -9,22 +9,22 @@ use Rattle.lexer.proofs.Tokens.{previous_lone, previous_name_lem, previous_word}
 use Rattle.lexer.proofs.previous.Statement.{statement}
 use Rattle.lexer.proofs.previous.Tie as tie
 
-returns : tie.Need-returns
+returns : tie.Need-returns-then-word-eq-NAME
 returns c =
     let l = c.before.before.before.before.before in
     let at-is-letter = l.before in
-    c.token.ensures ∙ previous_name_lem _ _ _ at-is-letter.before.byte_at.ensures _ _ (sym at-is-letter.is-letter.ensures ∙ l.if1.true) c.before.before.before.before.run.ensures
-    (c.before.before.word.ensures ∙ ap (λ (w : List ℕ). kind_number (word_of w)) c.before.before.before.name.ensures) c.before.if2.true
+    c.token.ensures ∙ previous_name_lem _ _ _ at-is-letter.byte_at.ensures _ _ (sym at-is-letter.is_letter.ensures ∙ l.if-is_letter.true) c.run-e.ensures
+    (c.word.ensures ∙ ap (λ (w : List ℕ). kind_number (word_of w)) c.name.ensures) c.if-word-eq-NAME.true
 
-returns-2 : tie.Need-returns-2
+returns-2 : tie.Need-returns-then-is_letter
 returns-2 c =
     let l = c.before.before.before.before in
     let at-is-letter = l.before in
-    previous_word _ _ _ at-is-letter.before.byte_at.ensures _ _ (sym at-is-letter.is-letter.ensures ∙ l.if1.true) c.before.before.before.run.ensures
-    (c.before.word.ensures ∙ ap (λ (w : List ℕ). kind_number (word_of w)) c.before.before.name.ensures) c.if2.false
+    previous_word _ _ _ at-is-letter.byte_at.ensures _ _ (sym at-is-letter.is_letter.ensures ∙ l.if-is_letter.true) c.run-e.ensures
+    (c.word.ensures ∙ ap (λ (w : List ℕ). kind_number (word_of w)) c.name.ensures) c.if-word-eq-NAME.false
 
-returns-3 : tie.Need-returns-3
-returns-3 c = previous_lone _ _ _ c.before.before.byte_at.ensures (sym c.before.is-letter.ensures ∙ c.if1.false)
+returns-3 : tie.Need-returns
+returns-3 c = previous_lone _ _ _ c.byte_at.ensures (sym c.is_letter.ensures ∙ c.if-is_letter.false)
 
 pub previous_spec : {M : Type 1} → statement M
 previous_spec =

@@ -4,4 +4,4 @@ use Rattle.lexer.proofs.same_name.Statement.{statement}
 use Rattle.lexer.proofs.same_name.Tie as tie
 
 pub same_name_spec : {M : Type 1} → statement M
-same_name_spec = tie.close (tie.spec (λ c κs. search rules) (λ c. c.same-capitals.ensures))
+same_name_spec = tie.close (tie.spec (λ c κs. search rules) (λ c. c.same_capitals.ensures))

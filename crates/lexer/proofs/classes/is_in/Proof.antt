@@ -6,19 +6,19 @@ use Rattle.lexer.specs.Lexer.{is_alphanumeric}
 use Rattle.lexer.proofs.classes.is_in.Statement.{statement}
 use Rattle.lexer.proofs.classes.is_in.Tie as tie
 
-returns : tie.Need-returns
-returns c = rw c.before.if1.true c.is-space.ensures
+returns : tie.Need-returns-then-class-eq-SPACE
+returns c = rw c.if-class-eq-SPACE.true c.is_space.ensures
 
-returns-2 : tie.Need-returns-2
-returns-2 c = rw c.before.if2.true c.is_digit.ensures
+returns-2 : tie.Need-returns-then-class-eq-DIGIT
+returns-2 c = rw c.if-class-eq-DIGIT.true c.is_digit.ensures
 
-returns-3 : tie.Need-returns-3
+returns-3 : tie.Need-returns-then-is_letter
 unfolding is_alphanumeric
-returns-3 c = rw (ne_eqb _ _ c.before.before.before.if1.false, ne_eqb _ _ c.before.before.if2.false, sym c.before.is-letter.ensures ∙ c.if3.true)
+returns-3 c = rw (ne_eqb _ _ c.if-class-eq-SPACE.false, ne_eqb _ _ c.if-class-eq-DIGIT.false, sym c.is_letter.ensures ∙ c.if-is_letter.true)
 
-returns-4 : tie.Need-returns-4
+returns-4 : tie.Need-returns
 unfolding is_alphanumeric
-returns-4 c = rw (ne_eqb _ _ c.before.before.before.before.if1.false, ne_eqb _ _ c.before.before.before.if2.false, sym c.before.before.is-letter.ensures ∙ c.before.if3.false) c.is-digit2.ensures
+returns-4 c = rw (ne_eqb _ _ c.if-class-eq-SPACE.false, ne_eqb _ _ c.if-class-eq-DIGIT.false, sym c.is_letter.ensures ∙ c.if-is_letter.false) c.is_digit-2.ensures
 
 pub is_in_spec : {M : Type 1} → statement M
 is_in_spec =

@@ -5,21 +5,21 @@ use Rattle.lexer.specs.Lexer.{is_letter}
 use Rattle.lexer.proofs.classes.is_letter.Statement.{statement}
 use Rattle.lexer.proofs.classes.is_letter.Tie as tie
 
-returns : tie.Need-returns
+returns : tie.Need-returns-then-b-lt65
 unfolding is_letter
-returns c = simp (lt-leb _ _ c.if1.true, lt-leb 97 c.before.args.b (omega arith))
+returns c = simp (lt-leb _ _ c.if-b-lt65.true, lt-leb 97 c.args.b (omega arith))
 
-returns-2 : tie.Need-returns-2
+returns-2 : tie.Need-returns-then-b-lt91
 unfolding is_letter
-returns-2 c = simp (le-leb _ _ c.before.if1.false, lt-ltb _ _ c.if2.true)
+returns-2 c = simp (le-leb _ _ c.if-b-lt65.false, lt-ltb _ _ c.if-b-lt91.true)
 
-returns-3 : tie.Need-returns-3
+returns-3 : tie.Need-returns-then-b-lt97
 unfolding is_letter
-returns-3 c = simp (le-leb _ _ c.before.before.if1.false, le-ltb _ _ c.before.if2.false, lt-leb _ _ c.if3.true)
+returns-3 c = simp (le-leb _ _ c.if-b-lt65.false, le-ltb _ _ c.if-b-lt91.false, lt-leb _ _ c.if-b-lt97.true)
 
-returns-4 : tie.Need-returns-4
+returns-4 : tie.Need-returns
 unfolding is_letter
-returns-4 c = simp (le-leb _ _ c.before.before.if1.false, le-ltb _ _ c.before.if2.false, le-leb _ _ c.if3.false)
+returns-4 c = simp (le-leb _ _ c.if-b-lt65.false, le-ltb _ _ c.if-b-lt91.false, le-leb _ _ c.if-b-lt97.false)
 
 pub is_letter_spec : {M : Type 1} → statement M
 is_letter_spec = tie.close (tie.spec returns returns-2 returns-3 returns-4)

@@ -4,21 +4,21 @@ use Rattle.lexer.specs.Lexer.{is_space}
 use Rattle.lexer.proofs.classes.is_space.Statement.{statement}
 use Rattle.lexer.proofs.classes.is_space.Tie as tie
 
-returns : tie.Need-returns
+returns : tie.Need-returns-then-b-eq32
 unfolding is_space
-returns c = rw (eq-eqb _ _ c.if1.true)
+returns c = rw (eq-eqb _ _ c.if-b-eq32.true)
 
-returns-2 : tie.Need-returns-2
+returns-2 : tie.Need-returns-then-b-eq9
 unfolding is_space
-returns-2 c = rw (ne_eqb _ _ c.before.if1.false, eq-eqb _ _ c.if2.true)
+returns-2 c = rw (ne_eqb _ _ c.if-b-eq32.false, eq-eqb _ _ c.if-b-eq9.true)
 
-returns-3 : tie.Need-returns-3
+returns-3 : tie.Need-returns-then-b-eq10
 unfolding is_space
-returns-3 c = rw (ne_eqb _ _ c.before.before.if1.false, ne_eqb _ _ c.before.if2.false, eq-eqb _ _ c.if3.true)
+returns-3 c = rw (ne_eqb _ _ c.if-b-eq32.false, ne_eqb _ _ c.if-b-eq9.false, eq-eqb _ _ c.if-b-eq10.true)
 
-returns-4 : tie.Need-returns-4
+returns-4 : tie.Need-returns
 unfolding is_space
-returns-4 c = rw (ne_eqb _ _ c.before.before.if1.false, ne_eqb _ _ c.before.if2.false, ne_eqb _ _ c.if3.false)
+returns-4 c = rw (ne_eqb _ _ c.if-b-eq32.false, ne_eqb _ _ c.if-b-eq9.false, ne_eqb _ _ c.if-b-eq10.false)
 
 pub is_space_spec : {M : Type 1} → statement M
 is_space_spec = tie.close (tie.spec returns returns-2 returns-3 returns-4)

@@ -10,20 +10,20 @@ use Rattle.lexer.proofs.Laws.{run_out, run_stop, run_step}
 use Rattle.lexer.proofs.classes.run.Statement.{statement}
 use Rattle.lexer.proofs.classes.run.Tie as tie
 
-abbrev invariant_loop : tie.invariant_loop
+abbrev invariant_loop : tie.invariant-loop-i
 invariant_loop text at class i₀ i = run_end (member class) text i ≡ run_end (member class) text at
 
-abbrev decreases_loop : tie.decreases_loop
+abbrev decreases_loop : tie.decreases-loop-i
 decreases_loop text at class i₀ i = length text - i
 
-loop-again : tie.Need-loop-preserved invariant_loop decreases_loop
-loop-again c = sym (run_step (member c.before.before.before.before.before.before.args.class) _ _ c.before.before.before.loop-test.true (sym c.before.is_in.ensures ∙ c.if1.true)) ∙ c.before.before.before.before.loop.invariant
+loop-again : tie.Need-loop-i-preserved invariant_loop decreases_loop
+loop-again c = sym (run_step (member c.args.class) _ _ c.loop-i-test.true (sym c.is_in.ensures ∙ c.if-is_in.true)) ∙ c.loop-i.invariant
 
-returns : tie.Need-returns invariant_loop decreases_loop
-returns c = sym (run_stop (member c.before.before.before.before.before.before.args.class) _ _ c.before.before.before.loop-test.true (sym c.before.is_in.ensures ∙ c.if1.false)) ∙ c.before.before.before.before.loop.invariant
+returns : tie.Need-returns-else-is_in invariant_loop decreases_loop
+returns c = sym (run_stop (member c.args.class) _ _ c.loop-i-test.true (sym c.is_in.ensures ∙ c.if-is_in.false)) ∙ c.loop-i.invariant
 
-returns-2 : tie.Need-returns-2 invariant_loop decreases_loop
-returns-2 c = sym (run_out (member c.before.before.before.args.class) _ _ c.loop-test.false) ∙ c.before.loop.invariant
+returns-2 : tie.Need-returns invariant_loop decreases_loop
+returns-2 c = sym (run_out (member c.args.class) _ _ c.loop-i-test.false) ∙ c.loop-i.invariant
 
 pub run_spec : {M : Type 1} → statement M
 run_spec =

@@ -10,25 +10,25 @@ use Rattle.lexer.proofs.Same.{name_begin, name_back, name_whole, name_apart, nam
 use Rattle.lexer.proofs.classes.same_capitals.Statement.{statement}
 use Rattle.lexer.proofs.classes.same_capitals.Tie as tie
 
-abbrev invariant_loop : tie.invariant_loop
+abbrev invariant_loop : tie.invariant-loop-i
 invariant_loop a b i₀ i = (i ≤ length a) × (same_name (drop i a) (drop i b) ≡ true)
 
-abbrev decreases_loop : tie.decreases_loop
+abbrev decreases_loop : tie.decreases-loop-i
 decreases_loop a b i₀ i = i
 
-loop-again : tie.Need-loop-preserved invariant_loop decreases_loop
+loop-again : tie.Need-loop-i-preserved invariant_loop decreases_loop
 loop-again c =
     let at-loop = c.before.before.before.before.before in
-    (omega arith, name_back _ _ at-loop.before.if1.false _ c.before.before.before.before.loop-test.true at-loop.loop.invariant.0 (sym c.before.same-letter.ensures ∙ c.if2.true) at-loop.loop.invariant.1)
+    (omega arith, name_back _ _ at-loop.if-a-b.false _ c.loop-i-test.true at-loop.loop-i.invariant.0 (sym c.same_letter.ensures ∙ c.if-same_letter.true) at-loop.loop-i.invariant.1)
 
-returns-2 : tie.Need-returns-2 invariant_loop decreases_loop
-returns-2 c = sym (name_apart _ _ _ (omega arith) (omega arith) (sym c.before.same-letter.ensures ∙ c.if2.false))
+returns-2 : tie.Need-returns-else-same_letter invariant_loop decreases_loop
+returns-2 c = sym (name_apart _ _ _ (omega arith) (omega arith) (sym c.same_letter.ensures ∙ c.if-same_letter.false))
 
-returns-3 : tie.Need-returns-3 invariant_loop decreases_loop
-returns-3 c = name_whole _ _ c.before.before.if1.false _ c.loop-test.false c.before.loop.invariant.1
+returns-3 : tie.Need-returns invariant_loop decreases_loop
+returns-3 c = name_whole _ _ c.if-a-b.false _ c.loop-i-test.false c.loop-i.invariant.1
 
 pub same_capitals_spec : {M : Type 1} → statement M
 same_capitals_spec =
     tie.close
-    (tie.spec invariant_loop decreases_loop (λ c. sym (name_length _ _ c.if1.true)) (λ c. (omega arith, search (name_begin, arith))) (λ c. omega arith) (λ c. omega arith) (λ c. omega arith) (λ c κs. search rules) (λ c. omega arith) loop-again
+    (tie.spec invariant_loop decreases_loop (λ c. sym (name_length _ _ c.if-a-b.true)) (λ c. (omega arith, search (name_begin, arith))) (λ c. omega arith) (λ c. omega arith) (λ c. omega arith) (λ c κs. search rules) (λ c. omega arith) loop-again
     returns-2 returns-3)
