@@ -173,6 +173,7 @@ class File:
     def __init__(self, text, modules, path):
         self.text, self.modules, self.path = text, modules, path
         self.left = []
+        self.helpers, self.answers = {}, {}
         self.mod = "|".join(sorted(map(re.escape, modules), key=len, reverse=True))
         self.ref = re.compile(rf"(?<![^\s(){{}};,])({self.mod})\.({WORD})")
 
@@ -209,6 +210,9 @@ class File:
                     if bound and ends:
                         vars[bound] = vars[v]
                     continue
+                wanted = self.wanted(text[: m.start()])
+                if fields and wanted is not None:
+                    place = wanted
                 n = f.befores(q, place)
                 if n is None:
                     if bound and ends:
@@ -246,6 +250,18 @@ class File:
         out.append(text[at:])
         return "".join(out)
 
+    def wanted(self, before):
+        """The place that the helper asks for whose argument comes next."""
+        m = re.search(r"([^\s(){};,]+)((?: [^\s(){};,]+)*) \(?$", before)
+        if not m:
+            return None
+        words = [m[1], *m[2].split()]
+        for i in range(len(words) - 1, -1, -1):
+            h = self.helpers.get(words[i])
+            if h and h[0] == len(words) - 1 - i:
+                return h[1]
+        return None
+
     def block(self, lines):
         """Turns one declaration: its signature, clauses and where block."""
         text = "\n".join(lines)
@@ -281,9 +297,14 @@ class File:
                     new = f.goal(g[2])
                     if new:
                         at_goal = (n, f, f.at[new[5:]])
+                        new_goal = new[5:]
                 n += len(re.findall(r"\S+", re.match(r"\s*\(([^:()]*):", s)[1])) if re.match(r"\s*\([^:()]*:", s) else 1
             sig = self.body(sig, vars)
             new_vars = {}
+            if position:
+                self.helpers[name] = (position[0], position[2])
+            if at_goal:
+                self.answers[name] = new_goal
 
             def clause(c):
                 words = c[2].split()
@@ -321,20 +342,67 @@ class File:
             if f is None:
                 continue
             spans = args_of(text, m.end())
-            needs = f.e["needs"]
-            skip = len(spans) - len(needs)
-            if skip < 0:
+            needs = [new for _, new in f.e["needs"]]
+            pairs = self.aligned([text[a:b] for a, b in spans], needs)
+            if pairs is None:
                 self.say(f"{len(spans)} arguments for {len(needs)} goals")
                 continue
-            for (a, b), (_, new) in reversed(list(zip(spans[skip:], needs))):
+            for (a, b), new in reversed(list(zip(spans, pairs))):
+                if new == "":
+                    text = text[:a].rstrip(" ") + text[b:]
+                    continue
                 lam = re.match(r"\(λ (\S+?)([.\s].*)\)$", text[a:b], re.S)
-                if lam:
+                if new and lam:
                     v = lam[1]
                     p = f.at[new]
                     self.start = {v: p}
+                    self.inside = set()
                     inner = self.body(text[a:b], {v: (f, v, p, [])})
                     text = text[:a] + inner + text[b:]
         return text
+
+    def aligned(self, args, needs):
+        """For each argument its goal, "" for one that is no longer asked for, None for one that is no answer; None where they don't fit."""
+
+        def fits(arg, need):
+            word = arg.strip("()").split(" ")[0]
+            if word in self.answers:
+                return self.answers[word] == need
+            lam = re.match(r"\(λ ([^.]*)\.", arg)
+            if lam:
+                return (len(lam[1].split()) == 2) <= ("requires" in need)
+            return not arg.startswith(("invariant", "decreases")) and "λ" not in arg
+
+        first = 0
+        best = {}
+        n, k = len(args), len(needs)
+
+        def go(i, j):
+            """The fewest dropped, from argument i and goal j."""
+            if (i, j) in best:
+                return best[i, j]
+            r = None
+            if i == n:
+                r = (0, []) if j == k else None
+            else:
+                if j < k and fits(args[i], needs[j]):
+                    s = go(i + 1, j + 1)
+                    if s:
+                        r = (s[0], [needs[j], *s[1]])
+                if j == 0 and (r is None or True):
+                    s = go(i + 1, 0) if not args[i].startswith("(λ") else None
+                    if s and (r is None or s[0] < r[0]):
+                        r = (s[0], [None, *s[1]])
+                if re.fullmatch(r"\(λ \w+( κs)?\. (search rules|omega arith)\)", args[i]):
+                    s = go(i + 1, j)
+                    if s and (r is None or s[0] + 1 < r[0]):
+                        r = (s[0] + 1, ["", *s[1]])
+            best[i, j] = r
+            return r
+
+        sys.setrecursionlimit(10000)
+        r = go(0, 0)
+        return r and r[1]
 
     def turned(self):
         out, block = [], []
@@ -379,6 +447,10 @@ def main():
                 continue
             file = File(text, modules, p)
             new = file.turned()
+            # the proof of a function f is f_spec
+            m = re.search(r"^pub (\S+) : \{M : Type 1\} → statement M$", new, re.M)
+            if m:
+                new = re.sub(rf"(?<!\S){re.escape(m[1])}(?!\S)", path.rsplit(".", 1)[-1] + "_spec", new)
             for it in dict.fromkeys(file.left):
                 print(it)
             if new != text:

@@ -9,7 +9,7 @@ use Rattle.leb128.proofs.put_byte.Tie as tie
 
 -- the list where the branches meet
 stored : (c : tie.Joined-at-out) → c.if-at-out.out ≡ set c.args.out.now c.args.at c.args.b
-stored c = ⊎_elim (λ w. w.1) (λ w. w.1 ∙ sym (set_out _ _ _ w.0.left)) c.if-at-out.branch-raw
+stored c = ⊎_elim (λ w. w.out-is) (λ w. w.out-is ∙ sym (set_out _ _ _ w.if-at-out.false)) c.if-at-out.branch-raw
 
 pub put_byte_spec : {M : Type 1} → statement M
 put_byte_spec = tie.close (tie.spec (λ c. search rules) (λ c. search rules) (λ c. ap length (stored c) ∙ simp length-set) (λ c. (refl, stored c)))

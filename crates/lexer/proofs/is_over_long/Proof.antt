@@ -15,5 +15,5 @@ returns-2 : tie.Need-returns
 unfolding over_long
 returns-2 c = refl
 
-pub is-over-long-spec : {M : Type 1} → statement M
-is-over-long-spec = tie.close (tie.spec returns (λ c. search rules) returns-2)
+pub is_over_long_spec : {M : Type 1} → statement M
+is_over_long_spec = tie.close (tie.spec returns (λ c. search rules) returns-2)

@@ -44,4 +44,4 @@ returns-12 c = rw (words_none _ c.if-bytes-eq5.false c.if-bytes-eq3.false c.if-b
 pub grammar_word_spec : {M : Type 1} → statement M
 grammar_word_spec =
     tie.close
-    (tie.spec (λ c. search rules) (λ c κs. search rules) returns (λ c. search rules) (λ c κs. search rules) returns-2 (λ c. search rules) (λ c κs. search rules) returns-3 (λ c. search rules) (λ c κs. search rules) returns-4 (λ c. search rules) (λ c κs. search rules) returns-5 (λ c. search rules) (λ c κs. search rules) returns-6 (λ c. search rules) (λ c κs. search rules) returns-7 (λ c. search rules) (λ c κs. search rules) returns-8 (λ c. search rules) (λ c κs. search rules) returns-9 (λ c. search rules) (λ c κs. search rules) returns-10 (λ c. search rules) (λ c κs. search rules) returns-11 returns-12)
+    (tie.spec (λ c. search rules) returns (λ c. search rules) returns-2 (λ c. search rules) returns-3 (λ c. search rules) returns-4 (λ c. search rules) returns-5 (λ c. search rules) returns-6 (λ c. search rules) returns-7 (λ c. search rules) returns-8 (λ c. search rules) returns-9 (λ c. search rules) returns-10 (λ c. search rules) returns-11 returns-12)
