@@ -17,7 +17,7 @@ START = {"args", "ranges", "requires", "well_formed", "lifetimes"}
 
 def flat(s):
     s = re.sub(r"_lem\d*$", "", s)
-    return s.replace("_", "-")
+    return re.sub(r"-(\d+)$", r"\1", s.replace("_", "-"))
 
 
 class Function:
@@ -181,7 +181,7 @@ class File:
         self.left.append(f"left: {self.path}: {what}")
 
     def body(self, text, vars):
-        """Turns the paths of the variables `vars`: name -> (function, root, place, prefix)."""
+        """Turns the paths of the variables `vars`: name -> (function, root, the root's place, place, prefix)."""
         vars = dict(vars)
         out, at = [], 0
         path = re.compile(rf"(?<![^\s(){{}};,\[\]])({WORD})((?:\.{WORD})*)")
@@ -191,7 +191,7 @@ class File:
             v = m[1]
             if v not in vars or any(a <= m.start() < b for a, b in quiet):
                 continue
-            f, root, q, prefix = vars[v]
+            f, root, start, q, prefix = vars[v]
             fields = [x for x in m[2].split(".") if x]
             k = 0
             if not prefix:
@@ -213,27 +213,26 @@ class File:
                 wanted = self.wanted(text[: m.start()])
                 if fields and wanted is not None:
                     place = wanted
-                n = f.befores(q, place)
+                n = f.befores(start, place)
                 if n is None:
                     if bound and ends:
                         # inside an arm's one record: the name stays one for what is behind it
                         new = root
-                        vars[bound] = (f, root, place, [])
+                        vars[bound] = (f, root, start, place, [])
                         self.inside.add(bound)
                     else:
                         self.say(f"inside an arm: {m[0]}")
                         continue
                 else:
-                    new = v + ".before" * n
+                    new = root + ".before" * n
                     if bound and ends:
-                        vars[bound] = (f, bound, place, [])
+                        vars[bound] = (f, bound, place, place, [])
             else:
-                start = self.start.get(root, q)
                 got = f.step(start, place, rest)
                 own = f.step(start, place, prefix) if prefix else None
                 if got is None:
                     if bound and ends:
-                        vars[bound] = (f, root, place, rest)
+                        vars[bound] = (f, root, start, place, rest)
                         self.inside.add(bound)
                         new = root
                     else:
@@ -243,7 +242,7 @@ class File:
                     # a prefix that stands under its own name needs no path anew
                     new = ".".join([v, *got[len(own) :]] if own and v not in self.inside and got[: len(own)] == own else [root, *got])
                     if bound and ends:
-                        vars[bound] = (f, root, place, rest)
+                        vars[bound] = (f, root, start, place, rest)
             out.append(text[at : m.start()])
             out.append(new)
             at = m.end()
@@ -265,7 +264,7 @@ class File:
     def block(self, lines):
         """Turns one declaration: its signature, clauses and where block."""
         text = "\n".join(lines)
-        self.start, self.inside = {}, set()
+        self.inside = set()
         vars = {}
         m = re.match(rf"(?:abbrev |pub |unfoldable )*({WORD})\s+:\s", lines[0])
         if m:
@@ -288,8 +287,7 @@ class File:
                     t = f.types.get(flat(b[3]))
                     if t is not None:
                         p = f.index[flat(b[3])]
-                        vars[b[1]] = (f, b[1], p, [])
-                        self.start[b[1]] = p
+                        vars[b[1]] = (f, b[1], p, p, [])
                         position = (n, f, p)
                 g = self.ref.match(s.strip())
                 if g and g[2].startswith("Need-"):
@@ -311,8 +309,7 @@ class File:
                 for spot in (position, at_goal):
                     if spot and spot[0] < len(words):
                         v = words[spot[0]].strip("()")
-                        new_vars[v] = (spot[1], v, spot[2], [])
-                        self.start[v] = spot[2]
+                        new_vars[v] = (spot[1], v, spot[2], spot[2], [])
                 return c[0]
 
             re.sub(rf"^({re.escape(name)})((?: [^=\n]*?)?) =", clause, rest, flags=re.M)
@@ -355,9 +352,8 @@ class File:
                 if new and lam:
                     v = lam[1]
                     p = f.at[new]
-                    self.start = {v: p}
                     self.inside = set()
-                    inner = self.body(text[a:b], {v: (f, v, p, [])})
+                    inner = self.body(text[a:b], {v: (f, v, p, p, [])})
                     text = text[:a] + inner + text[b:]
         return text
 

@@ -182,4 +182,4 @@ module _ (ns : List Range) (inputs first : ℕ) where
   suited_rules end ts num f last [] = tt
   suited_rules end ts num f last (r ∷ rs) =
       suited_append ns last (code_r r) (code_t (target r) ts ++ code_rules ts rs) (suited_timeless ns last (code_r r) (timeless_R r))
-      (suited_append ns (last_of last (code_r r)) (code_t (target r) ts) (code_rules ts rs) (suited_T (target r) first end ts num f (last_of last (code_r r)) (λ t l. after_rule r last t (omega arith))) (suited_rules end ts num f _ rs))
+      (suited_append ns (last_of last (code_r r)) (code_t (target r) ts) (code_rules ts rs) (suited_T (target r) first end ts num f (last_of last (code_r r)) (λ t l. after_rule r last t (omega arith))) (suited_rules end ts num f (last_of (last_of last (code_r r)) (code_t (target r) ts)) rs))

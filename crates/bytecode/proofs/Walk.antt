@@ -10,7 +10,7 @@ use lib.IntN.{ℤ}
 use lib.ListN.{length}
 use lib.Signed.{le_z}
 use borrow.Author.Tests.{lt-ltb, le-ltb}
-use Rattle.limits.specs.Answer.{Answer, accepted, refused, ◌andThen◌}
+use Rattle.limits.specs.Answer.{Answer, accepted, refused, ◌and_then◌}
 use Rattle.arith.specs.Values.{is_int32}
 use Rattle.semantics.specs.Program.{Range, RangeFits}
 use Rattle.arith.proofs.Basics.{true_T}

@@ -3,7 +3,7 @@ use Rattle.std.specs.Prelude.{ℕ, zero, suc, ◌+◌, Bool, true, false, not, �
 use Rattle.std.proofs.Math.Option.{Option, none, some}
 use Rattle.std.specs.Int.Signed.{le_z}
 use Rattle.limits.specs.Limits.{stack_limit, name_limit, image_limit, time_limit, too_long, broken_image}
-use Rattle.limits.specs.Answer.{Answer, accepted, refused, ◌andThen◌}
+use Rattle.limits.specs.Answer.{Answer, accepted, refused, ◌and_then◌}
 use Rattle.arith.specs.Values.{is_int32, eq_z}
 use Rattle.semantics.specs.Program.{Range, range_at, Side, changing, rising, falling, all_true, known_first, is_binary}
 use Rattle.leb128.specs.Numbers.{Read, got, nothing, number_at, signed_at}

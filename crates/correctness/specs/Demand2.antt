@@ -39,13 +39,13 @@ pub data Declines (program_of : List ℕ → Answer Program) (text buffer : List
 -- The claim about any two definitions, the programs of texts and the translation: the laws of Caught say which have it not.
 pub record Demand2Of (program_of : List ℕ → Answer Program) (translation_of : List ℕ → List ℕ → AfterTranslation) : Type 0 where
   -- A text is accepted, as the program p, exactly if it has document 01's grammar, limits, order and agreement, and spells p.
-  pub accepted_exactly : (text : List ℕ) (p : Program) → (program_of text ≡ accepted p) exactlyIf Spelled text p
+  pub accepted_exactly : (text : List ℕ) (p : Program) → (program_of text ≡ accepted p) exactly_if Spelled text p
   -- A text means one program at most.
   pub one_meaning : (text : List ℕ) (p q : Program) → Spelled text p → Spelled text q → p ≡ q
   -- Translation succeeds exactly if the text is accepted and its image fits the buffer; it answers the image's length.
-  pub translated_exactly : (text buffer : List ℕ) (n : ℕ) → ((translation_of text buffer).answer ≡ accepted n) exactlyIf Translates text buffer n
+  pub translated_exactly : (text buffer : List ℕ) (n : ℕ) → ((translation_of text buffer).answer ≡ accepted n) exactly_if Translates text buffer n
   -- Else it is refused, by the text's first fault or by 10: every text has an image or a refusal.
-  pub refused_exactly : (text buffer : List ℕ) (number place : ℕ) → ((translation_of text buffer).answer ≡ refused number place) exactlyIf Declines program_of text buffer number place
+  pub refused_exactly : (text buffer : List ℕ) (number place : ℕ) → ((translation_of text buffer).answer ≡ refused number place) exactly_if Declines program_of text buffer number place
   -- A fault has one of the numbers 1 to 9, or 23, or 30; its place is in the text, or is the text's length.
   pub faults : (text : List ℕ) (number place : ℕ) → program_of text ≡ refused number place → IsFault number × (place ≤ length text)
   -- Success writes only the image's bytes: those of the program that the text spells, and what stood behind them stays.
@@ -55,7 +55,7 @@ pub record Demand2Of (program_of : List ℕ → Answer Program) (translation_of 
   pub untouched : (text buffer : List ℕ) (number place : ℕ) → (translation_of text buffer).answer ≡ refused number place
       → (translation_of text buffer).buffer ≡ buffer
   -- Check says sound exactly if the image has the properties of the paragraph "Sound".
-  pub checked_exactly : (image : List ℕ) → (check_of image ≡ accepted tt) exactlyIf Sound image
+  pub checked_exactly : (image : List ℕ) → (check_of image ≡ accepted tt) exactly_if Sound image
   -- What is written is sound, and check says so.
   pub written_sound : (text buffer : List ℕ) (n : ℕ) → (translation_of text buffer).answer ≡ accepted n → Sound (take n (translation_of text buffer).buffer)
   pub written_checked : (text buffer : List ℕ) (n : ℕ) → (translation_of text buffer).answer ≡ accepted n → check_of (take n (translation_of text buffer).buffer) ≡ accepted tt

@@ -12,7 +12,7 @@ use lib.ListN.{length, drop, length-drop}
 use lib.Signed.{le_z}
 use borrow.Author.Tests.{lt-ltb, le-ltb, ltb-true, ltb-false}
 use Rattle.limits.specs.Limits.{image_limit}
-use Rattle.limits.specs.Answer.{Answer, accepted, refused, ◌andThen◌}
+use Rattle.limits.specs.Answer.{Answer, accepted, refused, ◌and_then◌}
 use Rattle.arith.specs.Values.{is_int32}
 use Rattle.arith.proofs.Basics.{T_true, true_T}
 use Rattle.semantics.specs.Program.{Range}

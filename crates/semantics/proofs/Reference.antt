@@ -285,9 +285,13 @@ reference_trace p wf [] s g = record {
   satisfies = all_start s (formulas_of p);
   fits = tt;
   timed = tt;
-  unique = λ others. elim others [ [] ↦ λ f h q. refl | w ∷ ws ↦ λ f h q. absurd f ];
+  unique = none_else;
   last = refl;
 }
+  where
+    none_else : (others : List State) → Fits p [] others → Satisfies p (s ∷ others) → Timed p [] s others → others ≡ []
+    none_else [] f h q = refl
+    none_else (w ∷ ws) f h q = absurd f
 reference_trace p wf (r ∷ rs) s g = go (reference_scan p s r) refl (λ t h. reference_trace p wf rs t h) (reference_trace p wf rs s g)
   where
     go : (o : Outcome State) → reference_scan p s r ≡ o → ((t : State) → InRanges p t → OnlyTrace p t rs (reference_replies p t rs)) → OnlyTrace p s rs (reference_replies p s rs)

@@ -5,7 +5,7 @@ use Rattle.std.proofs.Math.Option.{Option, none, some}
 use Rattle.std.specs.Int.Signed.{lt_z, le_z, quot_z}
 use Rattle.arith.specs.Values.{Comparison, equal, not_equal, less, less_equal, greater, greater_equal, Operation, add, subtract, multiply, divide, modulo, eq_z, is_int32}
 use Rattle.lexer.specs.Lexer.{same_name}
-use Rattle.trace_text.specs.Row.{◌andIf◌}
+use Rattle.trace_text.specs.Row.{◌and_if◌}
 use Rattle.st.specs.Syntax.{Identifier, Logical, or, and, Operator, connects, relates, computes, StExpression, number, variable, negative, complement, binary, Assignment, Branch, Statement, assign, choose, Declaration, StProgram}
 use Rattle.st.specs.Reading.{program_read}
 

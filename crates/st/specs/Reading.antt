@@ -75,8 +75,8 @@ pub data Reading (A : Type 0) : Type 0 where
   read : A → Lexemes → Reading A
   unread : Reading A
 
-infixl 20 ◌followedBy◌
-abbrev pub ◌followedBy◌ : {A B : Type 0} → Reading A → (A → Lexemes → Reading B) → Reading B
+infixl 20 ◌followed_by◌
+abbrev pub ◌followed_by◌ : {A B : Type 0} → Reading A → (A → Lexemes → Reading B) → Reading B
 read a ts followed_by f = f a ts
 unread followed_by f = unread
 

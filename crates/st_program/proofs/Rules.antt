@@ -17,7 +17,7 @@ use Rattle.semantics.specs.Formula.{State, at, eval_e}
 use Rattle.semantics.specs.ReferenceScan.{ranged, try_cases, or_previous, new_value}
 use Rattle.semantics.proofs.Untimed.{plain_rules}
 use Rattle.lexer.specs.Lexer.{same_name}
-use Rattle.trace_text.specs.Row.{◌andIf◌}
+use Rattle.trace_text.specs.Row.{◌and_if◌}
 use Rattle.st.specs.Syntax.{Identifier, Statement}
 use Rattle.st.specs.Meaning.{Store, value_in, holding, holding_all, is_input, evaluate, first_true, run_statements, previous_name}
 use Rattle.st_program.specs.Written.{name_at, expression_in_st, branch_in_st, rule_in_st, saving_line}

@@ -14,7 +14,7 @@ use Rattle.lexer.specs.Lexer.{is_digit, value_of, value_on}
 use Rattle.trace_text.specs.declared.Line.{Line}
 use Rattle.trace_text.specs.declared.Line.TheVariants.{Start, Wanted, Minus, Number, NoRow}
 use Rattle.trace_text.specs.Input.{before}
-use Rattle.trace_text.specs.Row.{◌andIf◌, all_digits, number_of, fields_of, numbers_of, row_of, long_row, handed, handed_of}
+use Rattle.trace_text.specs.Row.{◌and_if◌, all_digits, number_of, fields_of, numbers_of, row_of, long_row, handed, handed_of}
 use Rattle.trace_text.specs.Inner.Stages.{longer_by, digit_after, number_begins, signed, in_word32, cells_end, line_after, cells_after, count_of, cells_of}
 use Rattle.leb128.proofs.Stores.{sets_append, set_before}
 use Rattle.trace_text.proofs.Lines.{line_over, cells_over, over_cons, cells-cons, over-nil, cells-nil}

@@ -8,8 +8,8 @@ use Rattle.lexer.specs.Lexer.{is_digit, value_of}
 use Rattle.trace_text.specs.Input.{before}
 
 -- what follows a result; nothing stays nothing
-infixl 20 ◌andIf◌
-abbrev pub ◌andIf◌ : {A B : Type 0} → Option A → (A → Option B) → Option B
+infixl 20 ◌and_if◌
+abbrev pub ◌and_if◌ : {A B : Type 0} → Option A → (A → Option B) → Option B
 some a and_if f = f a
 none and_if f = none
 

@@ -23,10 +23,10 @@ pub has_operand_spec : {M : Type 1} → statement M
 unfolding has_operand
 has_operand_spec =
     tie.close
-    (tie.spec (λ c. rw (among 1 3 c.before.before.args.code (omega arith) (omega arith)))
-    (λ c. rw (beyond 1 3 c.before.before.before.before.args.code (omega arith) (omega arith), among 20 22 c.before.before.before.before.args.code (omega arith) (omega arith)))
-    (λ c. let n = c.before.before.before.before.before.before.args.code in rw (beyond 1 3 n (omega arith) (omega arith), beyond 20 22 n (omega arith) (omega arith), among 24 25 n (omega arith) (omega arith)))
-    (λ c. let n = c.before.args.code in rw (below 1 3 n (omega arith), below 20 22 n (omega arith), below 24 25 n (omega arith)))
-    (λ c. let n = c.before.before.before.args.code in rw (beyond 1 3 n (omega arith) (omega arith), below 20 22 n (omega arith), below 24 25 n (omega arith)))
-    (λ c. let n = c.before.before.before.before.before.args.code in rw (beyond 1 3 n (omega arith) (omega arith), beyond 20 22 n (omega arith) (omega arith), below 24 25 n (omega arith)))
-    (λ c. let n = c.before.before.before.before.before.before.args.code in rw (beyond 1 3 n (omega arith) (omega arith), beyond 20 22 n (omega arith) (omega arith), beyond 24 25 n (omega arith) (omega arith))))
+    (tie.spec (λ c. rw (among 1 3 c.args.code (omega arith) (omega arith)))
+    (λ c. rw (beyond 1 3 c.args.code (omega arith) (omega arith), among 20 22 c.args.code (omega arith) (omega arith)))
+    (λ c. let n = c.args.code in rw (beyond 1 3 n (omega arith) (omega arith), beyond 20 22 n (omega arith) (omega arith), among 24 25 n (omega arith) (omega arith)))
+    (λ c. let n = c.args.code in rw (below 1 3 n (omega arith), below 20 22 n (omega arith), below 24 25 n (omega arith)))
+    (λ c. let n = c.args.code in rw (beyond 1 3 n (omega arith) (omega arith), below 20 22 n (omega arith), below 24 25 n (omega arith)))
+    (λ c. let n = c.args.code in rw (beyond 1 3 n (omega arith) (omega arith), beyond 20 22 n (omega arith) (omega arith), below 24 25 n (omega arith)))
+    (λ c. let n = c.args.code in rw (beyond 1 3 n (omega arith) (omega arith), beyond 20 22 n (omega arith) (omega arith), beyond 24 25 n (omega arith) (omega arith))))

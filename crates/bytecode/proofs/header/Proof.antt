@@ -8,16 +8,16 @@ use Rattle.bytecode.proofs.header.Statement.{statement}
 use Rattle.bytecode.proofs.header.Tie as tie
 
 ranges-requires : tie.Need-ranges-requires
-ranges-requires c κs = subst (CountedWithin (length c.before.before.before.before.before.before.before.before.args.image.now)) c.before.before.before.before.inputs.given.1 c.before.before.before.before.before.before.counts.ensures.1
+ranges-requires c κs = subst (CountedWithin (length c.args.image.now)) c.in-Counts.is c.counts.ensures.1
 
-returns : tie.Need-returns
+returns : tie.Need-returns-in-Broken
 unfolding check_header
 returns c =
-    record { so = (rw (sym c.before.before.before.counts.ensures.0 ∙ ap counted_answer c.before.place.given.1), subst (CountedWithin (length c.before.before.before.before.before.args.image.now)) c.before.place.given.1 c.before.before.before.counts.ensures.1) }
+    record { so = (rw (sym c.counts.ensures.0 ∙ ap counted_answer c.in-Broken.is), subst (CountedWithin (length c.args.image.now)) c.in-Broken.is c.counts.ensures.1) }
 
-returns-2 : tie.Need-returns-2
+returns-2 : tie.Need-returns-in-Counts
 unfolding check_header
-returns-2 c = rw (sym c.before.before.before.before.before.before.before.before.before.before.counts.ensures.0 ∙ ap counted_answer c.before.before.before.before.before.before.before.before.inputs.given.1) c.before.before.before.ranges-2.ensures
+returns-2 c = rw (sym c.counts.ensures.0 ∙ ap counted_answer c.in-Counts.is) c.ranges-in-Counts.ensures
 
 pub header_spec : {M : Type 1} → statement M
 header_spec =

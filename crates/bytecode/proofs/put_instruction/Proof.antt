@@ -8,8 +8,8 @@ use Rattle.bytecode.proofs.put_instruction.Tie as tie
 returns : tie.Need-returns
 returns c =
     let at-put-byte = c.before.before.before.before.before.before in
-    let p = at-put-byte.put_byte.ensures in
-    let q = c.before.before.put-unsigned.ensures in
+    let p = at-put-byte.put_byte-t.ensures in
+    let q = c.put_unsigned.ensures in
     (omega (arith, p.0, q.0), rw (q.1, p.1, p.0, add-one))
 
 pub put_instruction_spec : {M : Type 1} → statement M

@@ -22,15 +22,15 @@ three_runs t w n to a b r out o₁ o₂ o₃ p q x =
     let y : o₃ ≡ sets o₁ a (number w ++ number n) = x.1 ∙ rw (q.1, q.0) (sym (sets_append o₁ a (number w) (number n))) in
     (omega (arith, p.0, q.0, x.0), y ∙ rw (p.1, p.0) (sym (sets_append out to (23 ∷ number t) (number w ++ number n))))
 
-put-unsigned-requires : tie.Need-put-unsigned-requires
-put-unsigned-requires c κs = (omega (arith, at_most_five c.before.before.before.before.before.before.args.t, c.before.before.before.before.before.before.requires.0, c.before.before.before.put-instruction.ensures.0), c.before.before.before.before.before.before.requires.2)
+put-unsigned-requires : tie.Need-put_unsigned-b-requires
+put-unsigned-requires c κs = (omega (arith, at_most_five c.args.t, c.requires.0, c.put_instruction-a.ensures.0), c.requires.2)
 
-put-unsigned-requires-2 : tie.Need-put-unsigned-requires-2
-put-unsigned-requires-2 c κs = (omega (arith, at_most_five c.before.before.before.before.before.before.before.before.before.before.args.t, at_most_five c.before.before.before.before.before.before.before.before.before.before.args.w, c.before.before.before.before.before.before.before.before.before.before.requires.0, c.before.before.before.before.before.before.before.put-instruction.ensures.0, c.before.before.before.put-unsigned.ensures.0), c.before.before.before.before.before.before.before.before.before.before.requires.3)
+put-unsigned-requires-2 : tie.Need-put_unsigned-requires
+put-unsigned-requires-2 c κs = (omega (arith, at_most_five c.args.t, at_most_five c.args.w, c.requires.0, c.put_instruction-a.ensures.0, c.put_unsigned-b.ensures.0), c.requires.3)
 
 returns : tie.Need-returns
 returns c =
-    three_runs c.before.before.before.before.before.before.before.before.before.before.before.before.before.args.t c.before.before.before.before.before.before.before.before.before.before.before.before.before.args.w c.before.before.before.before.before.before.before.before.before.before.before.before.before.args.n c.before.before.before.before.before.before.before.before.before.before.before.before.before.args.to _ _ _ c.before.before.before.before.before.before.before.before.before.before.before.before.before.args.out.now _ _ _ c.before.before.before.before.before.before.before.before.before.before.put-instruction.ensures c.before.before.before.before.before.before.put-unsigned.ensures c.before.before.put-unsigned2.ensures
+    three_runs c.args.t c.args.w c.args.n c.args.to _ _ _ c.args.out.now _ _ _ c.put_instruction-a.ensures c.put_unsigned-b.ensures c.put_unsigned.ensures
 
 pub put_timer_spec : {M : Type 1} → statement M
 put_timer_spec = tie.close (tie.spec (λ c κs. search rules) put-unsigned-requires put-unsigned-requires-2 (λ c. search rules) returns)

@@ -8,30 +8,30 @@ use Rattle.bytecode.proofs.Fetching.{number_within, timer_first, timer_second, t
 use Rattle.bytecode.proofs.timer_at.Statement.{statement}
 use Rattle.bytecode.proofs.timer_at.Tie as tie
 
-returns : tie.Need-returns
-returns c = (sym (timer_first _ _ (sym c.before.before.unsigned-at.ensures ∙ ap unsigned_read c.enum_told.given.1)), tt)
+returns : tie.Need-returns-in_default
+returns c = (sym (timer_first _ _ (sym c.unsigned_at.ensures ∙ ap unsigned_read c.in_default.is)), tt)
 
 -- the operands that were read
-t_at : (c : tie.After-known-told) → number_at c.before.before.before.before.before.args.code.now c.before.before.before.before.before.args.at ≡ got c.before.t.given.0.0 c.before.t.given.0.1.0
-t_at c = sym c.before.before.before.unsigned-at.ensures ∙ ap unsigned_read c.before.t.given.1
+t_at : (c : tie.In-Number) → number_at c.args.code.now c.args.at ≡ got c.in-Number.t c.in-Number.second
+t_at c = sym c.unsigned_at.ensures ∙ ap unsigned_read c.in-Number.is
 
-w_at : (c : tie.After-known-told2) → number_at c.before.before.before.before.before.before.before.before.before.args.code.now c.before.before.before.before.before.t.given.0.1.0 ≡ got c.before.w.given.0.0 c.before.w.given.0.1.0
-w_at c = sym c.before.before.before.unsigned-at2.ensures ∙ ap unsigned_read c.before.w.given.1
+w_at : (c : tie.In-Number-unsigned_at) → number_at c.args.code.now c.in-Number.second ≡ got c.in-Number-unsigned_at.w c.in-Number-unsigned_at.third
+w_at c = sym c.unsigned_at-2.ensures ∙ ap unsigned_read c.in-Number-unsigned_at.is
 
-n_at : (c : tie.After-known-told3) → number_at c.before.before.before.before.before.before.before.before.before.before.before.before.before.args.code.now c.before.before.before.before.before.w.given.0.1.0 ≡ got c.before.n.given.0.0 c.before.n.given.0.1.0
-n_at c = sym c.before.before.before.unsigned-at3.ensures ∙ ap unsigned_read c.before.n.given.1
+n_at : (c : tie.In-Number-unsigned_at-2) → number_at c.args.code.now c.in-Number-unsigned_at.third ≡ got c.in-Number-unsigned_at-2.n c.in-Number-unsigned_at-2.next
+n_at c = sym c.unsigned_at-3.ensures ∙ ap unsigned_read c.in-Number-unsigned_at-2.is
 
-returns-2 : tie.Need-returns-2
-returns-2 c = (sym (timer_second _ _ _ _ (t_at c.before.before.before) (sym c.before.before.unsigned-at2.ensures ∙ ap unsigned_read c.enum-told2.given.1)), tt)
+returns-2 : tie.Need-returns-in_default-unsigned_at
+returns-2 c = (sym (timer_second _ _ _ _ (t_at c.before.before) (sym c.unsigned_at-2.ensures ∙ ap unsigned_read c.in_default-unsigned_at.is)), tt)
 
-returns-3 : tie.Need-returns-3
+returns-3 : tie.Need-returns-in_default-unsigned_at-2
 returns-3 c =
-    (sym (timer_third _ _ _ _ (t_at c.before.before.before.before.before.before.before) _ _ (w_at c.before.before.before) (sym c.before.before.unsigned-at3.ensures ∙ ap unsigned_read c.enum-told3.given.1)), tt)
+    (sym (timer_third _ _ _ _ (t_at c.before.before.before.before) _ _ (w_at c.before.before) (sym c.unsigned_at-3.ensures ∙ ap unsigned_read c.in_default-unsigned_at-2.is)), tt)
 
-returns-4 : tie.Need-returns-4
+returns-4 : tie.Need-returns
 returns-4 c =
-    let e₁ = t_at c.before.before.before.before.before.before.before.before in
-    let e₂ = w_at c.before.before.before.before in
+    let e₁ = t_at c.before.before.before.before in
+    let e₂ = w_at c.before.before in
     let e₃ = n_at c in
     let a = number_within _ _ _ _ e₁ in
     let b = number_within _ _ _ _ e₂ in

@@ -9,35 +9,35 @@ use Rattle.bytecode.proofs.Limiting.{Limiting, limiting_begins, limiting_ends, l
 use Rattle.bytecode.proofs.timer_limits.Statement.{statement}
 use Rattle.bytecode.proofs.timer_limits.Tie as tie
 
-abbrev invariant_loop : tie.invariant_loop
+abbrev invariant_loop : tie.invariant-loop-at
 invariant_loop code table₀ at₀ table at = Limiting code table₀ at table
 
-abbrev decreases_loop : tie.decreases_loop
+abbrev decreases_loop : tie.decreases-loop-at
 decreases_loop code table₀ at₀ table at = length code - at
 
-loop-less : tie.Need-loop-smaller invariant_loop decreases_loop
-loop-less c = let b = subst (FetchedWithin (length c.before.before.before.before.before.before.before.before.args.code.now) c.before.before.before.before.before.loop.at) c.before.next.given.1 c.before.before.before.fetch.ensures.1 in omega (arith, b.behind, c.before.before.before.before.loop-test.true)
+loop-less : tie.Need-loop-at-smaller-in-Instruction invariant_loop decreases_loop
+loop-less c = let b = subst (FetchedWithin (length c.args.code.now) c.loop-at.at) c.in-Instruction.is c.fetch.ensures.1 in omega (arith, b.behind, c.loop-at-test.true)
 
-loop-again : tie.Need-loop-preserved invariant_loop decreases_loop
-loop-again c = let b = subst (FetchedWithin (length c.before.before.before.before.before.before.before.before.args.code.now) c.before.before.before.before.before.loop.at) c.before.next.given.1 c.before.before.before.fetch.ensures.1 in limiting_passes c.before.before.before.before.before.loop.invariant c.before.before.before.before.loop-test.true c.before.next.given.0.0 c.before.next.given.0.1.0 c.before.next.given.0.1.1.0 (sym (ap fetched_read c.before.next.given.1) ∙ c.before.before.before.fetch.ensures.0) b
+loop-again : tie.Need-loop-at-preserved-in-Instruction invariant_loop decreases_loop
+loop-again c = let b = subst (FetchedWithin (length c.args.code.now) c.loop-at.at) c.in-Instruction.is c.fetch.ensures.1 in limiting_passes c.loop-at.invariant c.loop-at-test.true c.in-Instruction.field-0 c.in-Instruction.field-1 c.in-Instruction.next (sym (ap fetched_read c.in-Instruction.is) ∙ c.fetch.ensures.0) b
 
-loop-less-2 : tie.Need-loop-smaller-2 invariant_loop decreases_loop
-loop-less-2 c = let b = subst (FetchedWithin (length c.before.before.before.before.before.before.before.before.before.before.before.before.args.code.now) c.before.before.before.before.before.before.before.before.before.loop.at) c.before.before.before.before.before.t.given.1 c.before.before.before.before.before.before.before.fetch.ensures.1 in omega (arith, b.behind, c.before.before.before.before.before.before.before.before.loop-test.true)
+loop-less-2 : tie.Need-loop-at-smaller invariant_loop decreases_loop
+loop-less-2 c = let b = subst (FetchedWithin (length c.args.code.now) c.loop-at.at) c.in-Timer.is c.fetch.ensures.1 in omega (arith, b.behind, c.loop-at-test.true)
 
-loop-again-2 : tie.Need-loop-preserved-2 invariant_loop decreases_loop
-loop-again-2 c = let b = subst (FetchedWithin (length c.before.before.before.before.before.before.before.before.before.before.before.before.args.code.now) c.before.before.before.before.before.before.before.before.before.loop.at) c.before.before.before.before.before.t.given.1 c.before.before.before.before.before.before.before.fetch.ensures.1 in limiting_stores c.before.before.before.before.before.before.before.before.before.loop.invariant c.before.before.before.before.before.before.before.before.loop-test.true c.before.before.before.before.before.t.given.0.0 c.before.before.before.before.before.t.given.0.1.0 c.before.before.before.before.before.t.given.0.1.1.0 c.before.before.before.before.before.t.given.0.1.1.1.0 (sym (ap fetched_read c.before.before.before.before.before.t.given.1) ∙ c.before.before.before.before.before.before.before.fetch.ensures.0) b.behind _ c.before.before.put-limit.ensures
+loop-again-2 : tie.Need-loop-at-preserved invariant_loop decreases_loop
+loop-again-2 c = let b = subst (FetchedWithin (length c.args.code.now) c.loop-at.at) c.in-Timer.is c.fetch.ensures.1 in limiting_stores c.loop-at.invariant c.loop-at-test.true c.in-Timer.t c.in-Timer.field-1 c.in-Timer.n c.in-Timer.next (sym (ap fetched_read c.in-Timer.is) ∙ c.fetch.ensures.0) b.behind _ c.put_limit.ensures
 
-same_length : tie.Need-same-length invariant_loop decreases_loop
-same_length c = c.before.before.before.before.loop.invariant.size
+same_length : tie.Need-shape_of-table-in-Malformed invariant_loop decreases_loop
+same_length c = c.loop-at.invariant.size
 
-returns : tie.Need-returns invariant_loop decreases_loop
-returns c = limiting_stops c.before.before.before.before.loop.invariant (sym (sym (ap fetched_read c.enum_told.given.1) ∙ c.before.before.fetch.ensures.0))
+returns : tie.Need-returns-in-Malformed invariant_loop decreases_loop
+returns c = limiting_stops c.loop-at.invariant (sym (sym (ap fetched_read c.in-Malformed.is) ∙ c.fetch.ensures.0))
 
-same-length-2 : tie.Need-same-length-2 invariant_loop decreases_loop
-same-length-2 c = c.before.loop.invariant.size
+same-length-2 : tie.Need-shape_of-table invariant_loop decreases_loop
+same-length-2 c = c.loop-at.invariant.size
 
-returns-2 : tie.Need-returns-2 invariant_loop decreases_loop
-returns-2 c = limiting_ends c.before.loop.invariant c.loop-test.false
+returns-2 : tie.Need-returns invariant_loop decreases_loop
+returns-2 c = limiting_ends c.loop-at.invariant c.loop-at-test.false
 
 pub timer_limits_spec : {M : Type 1} → statement M
 timer_limits_spec =
