@@ -47,7 +47,7 @@ fn compare_tokens(text: &[u8], from: usize, to: usize, at: usize) -> Step
 }
 
 // The end of a part that stands once more, or that its bytes do not.
-#[derive(Drop)]
+#[derive(Clone, Copy)]
 enum Repetition {
     Until(usize),
     Other,

@@ -8,7 +8,7 @@ ghost use Rattle.arith.specs.Results.{outcome_of};
 pub mod bits;
 
 // A signed 32-bit number, or refusal 14.
-#[derive(Drop)]
+#[derive(Clone, Copy)]
 pub enum Value {
     Is(i32),
     Refused,

@@ -14,7 +14,7 @@ use machine::{Timing, lists};
 use shapes::{Measured, Shaped};
 
 // The place of the code and the timing of the row, or a refusal's number and place.
-#[derive(Drop)]
+#[derive(Clone, Copy)]
 pub enum Before {
     Code(usize, Timing),
     Refused(u8, usize),

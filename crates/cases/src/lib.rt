@@ -20,7 +20,7 @@ use expressions::scope::Names;
 use lexer::Step;
 
 // The variable of a rule: its name stands from `start` to `end`.
-#[derive(Drop)]
+#[derive(Clone, Copy)]
 pub struct Variable {
     pub start: usize,
     pub end: usize,

@@ -25,7 +25,7 @@ pub const FALLING: u64 = 2;
 // What is known before an instruction: how many values are held, and their sorts as bits (the lowest that of the last held); 1 if
 // a gate awaits its pick, else 0 (a number, so that the struct has no padding to copy); 1 plus three times the id whose picks await their
 // settle plus the side of the last, or 0; which ids' current values may be used, as bits (the lowest that of id 0), and how many ids there are.
-#[derive(Drop)]
+#[derive(Clone, Copy)]
 pub struct Walk {
     pub held: u64,
     pub sorts: u64,
@@ -35,7 +35,7 @@ pub struct Walk {
     pub names: u64,
 }
 
-#[derive(Drop)]
+#[derive(Clone, Copy)]
 pub enum Advanced {
     Kept(Walk),
     Broken,

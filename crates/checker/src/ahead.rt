@@ -11,7 +11,7 @@ use crate::advance::{Advanced, Walk};
 use bytecode::Single;
 
 // The walk and the place behind instructions; or the first of them breaks soundness or is a timer.
-#[derive(Drop)]
+#[derive(Clone, Copy)]
 pub enum Stretch {
     Taken(Walk, usize),
     Broken,

@@ -16,7 +16,7 @@ pub mod ahead;
 pub mod timed;
 
 // Sound, or refused with document 01's number and place.
-#[derive(Drop)]
+#[derive(Clone, Copy)]
 pub enum Checked {
     Sound,
     Refused(u8, usize),
@@ -56,7 +56,7 @@ pub fn initial(inputs: usize, names: usize) -> Walk
 
 // Sound and without timers; or the place in the code of the instruction that breaks soundness, its length where something is only missing there; or a timer
 // was met, and nothing is said.
-#[derive(Drop)]
+#[derive(Clone, Copy)]
 pub enum Verdict {
     Sound,
     Broken(usize),
@@ -88,7 +88,7 @@ pub fn walk_from(code: &[u8], from: usize, first: Walk) -> Verdict
 }
 
 // Sound and without timers, sound, or refused with document 01's number and place.
-#[derive(Drop)]
+#[derive(Clone, Copy)]
 pub enum Surveyed {
     Plain,
     Timed,

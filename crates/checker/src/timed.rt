@@ -14,14 +14,14 @@ use crate::advance::{Advanced, Walk};
 use crate::{Checked, Surveyed, advance};
 
 // The instruction before, as far as a timer asks: 1 plus the id of the variable whose rule or timer it is, or 0; and the least id of a timer that may follow it.
-#[derive(Drop)]
+#[derive(Clone, Copy)]
 pub struct Last {
     pub of: u64,
     pub least: u64,
 }
 
 // The walk behind one instruction, and its place; or the instruction breaks soundness.
-#[derive(Drop)]
+#[derive(Clone, Copy)]
 pub enum Turned {
     Taken(Walk, Last, usize),
     Broken,

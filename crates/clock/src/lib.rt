@@ -18,7 +18,7 @@ use translate::Analysis;
 mod local;
 
 // Filled, or the number of a refusal and its place.
-#[derive(Drop)]
+#[derive(Clone, Copy)]
 pub enum Filled {
     Done,
     Refused(u8, usize),

@@ -102,7 +102,7 @@ fn nth(low: &[i32], high: &[i32], times: usize, values: &mut [i32])
 }
 
 // No scan was refused; or the scans done before the refused one.
-#[derive(Drop)]
+#[derive(Clone, Copy)]
 pub enum Visited {
     Every,
     Until(usize),
@@ -153,7 +153,7 @@ fn walk(
 }
 
 // Closed; or the number of a refusal and its place, for 27 the scans done before.
-#[derive(Drop)]
+#[derive(Clone, Copy)]
 pub enum Closing {
     Closed,
     Refused(u8, usize),
@@ -261,7 +261,7 @@ fn closed_in(
 }
 
 // The answer; for 27, the state and the row of the refused scan stand at the front of the two.
-#[derive(Drop)]
+#[derive(Clone, Copy)]
 pub struct Profile {
     pub answer: Closing,
     pub state: [i32; limits::NAME_LIMIT],

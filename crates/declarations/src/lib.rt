@@ -26,7 +26,7 @@ const LOWEST: i32 = -2147483648;
 const HIGHEST: i32 = 2147483647;
 
 // A number between its bounds.
-#[derive(Drop)]
+#[derive(Clone, Copy)]
 enum Number {
     Is(i32),
     Outside,

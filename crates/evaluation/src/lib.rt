@@ -23,7 +23,7 @@ use bytecode::Single;
 use machine::{Registers, Stepped};
 
 // Whether a condition holds, or meets 14.
-#[derive(Drop)]
+#[derive(Clone, Copy)]
 pub enum Truth {
     Yes,
     No,
@@ -31,7 +31,7 @@ pub enum Truth {
 }
 
 // The place where a watch first failed.
-#[derive(Drop)]
+#[derive(Clone, Copy)]
 pub enum Failed {
     At(usize),
     Never,

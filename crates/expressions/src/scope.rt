@@ -7,7 +7,7 @@ ghost use Rattle.arith.specs.Inner.Flags.{flags_of};
 use arith::bits;
 
 // The names declared: how many, and which of them may be used with their current value (bit i for the name with id i).
-#[derive(Drop)]
+#[derive(Clone, Copy)]
 pub struct Names {
     pub count: usize,
     pub known: u64,

@@ -14,14 +14,14 @@ use checker::advance::{Advanced, Walk};
 use machine::values;
 
 // The progress behind instructions that are done, and how many they are; or it is another, and nothing is done.
-#[derive(Drop)]
+#[derive(Clone, Copy)]
 pub enum Acted {
     On(Progress, usize),
     Other,
 }
 
 // The progress behind instructions that are done, and how many they are.
-#[derive(Drop)]
+#[derive(Clone, Copy)]
 pub struct Stretch {
     pub progress: Progress,
     pub steps: usize,

@@ -11,14 +11,14 @@ use checker::advance::{Advanced, Walk};
 use machine::values;
 
 // What the two make, and its sort; or nothing is seen.
-#[derive(Drop)]
+#[derive(Clone, Copy)]
 pub enum Seen {
     Value(i32, u64),
     Other,
 }
 
 // The progress behind instructions, and how many were done; or what the first of them leads to.
-#[derive(Drop)]
+#[derive(Clone, Copy)]
 pub enum Leap {
     On(Progress, usize),
     Refused(Progress, u8),
@@ -26,7 +26,7 @@ pub enum Leap {
 }
 
 // The progress behind a settle; or none stands here.
-#[derive(Drop)]
+#[derive(Clone, Copy)]
 enum Settled {
     On(Progress),
     Other,
@@ -106,14 +106,14 @@ pub fn pair_ahead(code: &[u8], prev: &[i32], cur: &[i32], at: usize, w: Walk) ->
 }
 
 // How many values are held behind an instruction that is passed over, and the place behind it; or it is another.
-#[derive(Drop)]
+#[derive(Clone, Copy)]
 enum Skipped {
     Over(u64, usize),
     Other,
 }
 
 // How many values are held behind instructions that are passed over, the place behind them, and how many they are.
-#[derive(Drop)]
+#[derive(Clone, Copy)]
 pub struct Passage {
     pub held: u64,
     pub at: usize,

@@ -22,7 +22,7 @@ pub mod moves;
 
 // The walk before an instruction, and the place of that instruction; whether the variable at hand was picked, and whether
 // instructions are passed over. As many values are held as the walk knows of, none while instructions are passed over.
-#[derive(Drop)]
+#[derive(Clone, Copy)]
 pub struct Progress {
     pub walk: Walk,
     pub at: usize,
@@ -31,7 +31,7 @@ pub struct Progress {
 }
 
 // The progress behind an instruction, with the number of the machine's refusal; or the instruction breaks soundness.
-#[derive(Drop)]
+#[derive(Clone, Copy)]
 pub enum Moved {
     On(Progress),
     Refused(Progress, u8),
@@ -40,7 +40,7 @@ pub enum Moved {
 
 // The steps of a run to the end of sound code; the number of its refusal and the steps; or the place in the code that breaks soundness. Timers are not worked
 // here: a code that has one may end so.
-#[derive(Drop)]
+#[derive(Clone, Copy)]
 pub enum Ended {
     Done(usize),
     Refused(u8, usize),

@@ -8,14 +8,14 @@ ghost use Rattle.leb128.specs.Results.{unsigned_read, signed_read};
 ghost use Rattle.leb128.specs.Inner.Groups.{joined_groups};
 
 // A number and the place behind it, or no number below 2 ^ 32 in shortest form.
-#[derive(Drop)]
+#[derive(Clone, Copy)]
 pub enum Unsigned {
     Number(u64, usize),
     Malformed,
 }
 
 // A signed number and the place behind it, likewise.
-#[derive(Drop)]
+#[derive(Clone, Copy)]
 pub enum Signed {
     Number(i32, usize),
     Malformed,

@@ -11,7 +11,7 @@ use crate::{Registers, Stepped, values};
 
 // How many values are held, whether the variable at hand was picked, whether instructions are passed over; the place behind, and how many
 // instructions were done. Or the number of the first one's refusal. Or the first one is a timer, and nothing was done.
-#[derive(Drop)]
+#[derive(Clone, Copy)]
 pub enum Dispatched {
     On(usize, bool, bool, usize, usize),
     Refused(u8),
@@ -19,7 +19,7 @@ pub enum Dispatched {
 }
 
 // What the comparison that stands at a place finds; or none does.
-#[derive(Drop)]
+#[derive(Clone, Copy)]
 pub enum Lookahead {
     Truth(bool),
     Other,

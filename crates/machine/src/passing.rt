@@ -6,21 +6,21 @@ ghost use Rattle.machine.specs.Inner.Passing.{over_of, OverTo, PassedBy, BeyondB
 use crate::timer;
 
 // Whether instructions are still passed over, the place behind those that were, and how many they are; or the first is broken.
-#[derive(Drop)]
+#[derive(Clone, Copy)]
 pub enum Passing {
     On(bool, usize, usize),
     Broken,
 }
 
 // The place behind one of the codes 1 to 19; or it is another.
-#[derive(Drop)]
+#[derive(Clone, Copy)]
 enum Beyond {
     Place(usize),
     Other,
 }
 
 // The place behind such codes, and how many they are.
-#[derive(Drop)]
+#[derive(Clone, Copy)]
 pub struct Along {
     pub at: usize,
     pub steps: usize,

@@ -91,7 +91,7 @@ fn work(prev: &[i32], cur: &mut [i32], timing: Timing, t: u64, w: u64, n: u64) -
 }
 
 // The place behind a timer that was worked; or it is broken.
-#[derive(Drop)]
+#[derive(Clone, Copy)]
 pub enum Worked {
     Behind(usize),
     Broken,

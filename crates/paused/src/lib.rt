@@ -82,7 +82,7 @@ const NUMBER_FACTOR: u64 = 72057594037927936;
 const PLACE_FACTOR: u64 = 16777216;
 
 // The phase, a refusal's number, the place in the code, the steps done, and the registers.
-#[derive(Drop)]
+#[derive(Clone, Copy)]
 pub struct Checkpoint {
     pub phase: usize,
     pub number: u8,
@@ -94,7 +94,7 @@ pub struct Checkpoint {
 }
 
 // The length of the image, the place of its code, the numbers of a state, the names, the milliseconds, and which names are timers, one bit a name.
-#[derive(Drop)]
+#[derive(Clone, Copy)]
 pub struct Layout {
     pub image: usize,
     pub base: usize,
@@ -105,7 +105,7 @@ pub struct Layout {
 }
 
 // The answer of a call: steps; a refusal's number, place and steps; a scan that is not finished; neither scan nor row.
-#[derive(Drop)]
+#[derive(Clone, Copy)]
 pub enum Response {
     Done(usize),
     Refused(u8, usize, usize),

@@ -15,14 +15,14 @@ use shapes::{Measured, Shaped};
 use translate::Translated;
 
 // The image's length; or the number and place of the refusal of translation or start.
-#[derive(Drop)]
+#[derive(Clone, Copy)]
 pub enum Replayed {
     Done(usize),
     Refused(u8, usize),
 }
 
 // Where a replay stands: the next row, its first cell, and the place behind the trace so far.
-#[derive(Drop)]
+#[derive(Clone, Copy)]
 struct Cursor {
     row: usize,
     cell: usize,

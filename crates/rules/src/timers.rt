@@ -6,7 +6,7 @@ ghost use Rattle.rules.specs.Inner.Timers.{table_timers, timers_in, TimerTables,
 use expressions::scope::Names;
 
 // The names known and the end of the code, behind timers.
-#[derive(Drop)]
+#[derive(Clone, Copy)]
 pub struct Behind {
     pub known: u64,
     pub to: usize,

@@ -23,14 +23,14 @@ use machine::{Executed, Registers, Stepped, Timing, lists};
 use shapes::{Measured, Shaped};
 
 // Done, or the number of a refusal and its place.
-#[derive(Drop)]
+#[derive(Clone, Copy)]
 pub enum Started {
     Done,
     Refused(u8, usize),
 }
 
 // The steps; or the number of a refusal, its place and the steps.
-#[derive(Drop)]
+#[derive(Clone, Copy)]
 pub enum Scanned {
     Done(usize),
     Refused(u8, usize, usize),

@@ -14,7 +14,7 @@ use arith::bits;
 use checker::Surveyed;
 
 // The counts of inputs and of names, how many numbers a state has, which names are timers as bits (the lowest that of id 0), and the place where the code begins.
-#[derive(Drop)]
+#[derive(Clone, Copy)]
 pub struct Measured {
     pub inputs: usize,
     pub names: usize,
@@ -24,7 +24,7 @@ pub struct Measured {
 }
 
 // What was measured of a sound image; or refused, as check does.
-#[derive(Drop)]
+#[derive(Clone, Copy)]
 pub enum Shaped {
     Shape(Measured),
     Refused(u8, usize),
@@ -41,7 +41,7 @@ fn put_count(out: &mut [i32], at: usize, n: u64)
 }
 
 // How many numbers a state has, and which names are timers.
-#[derive(Drop)]
+#[derive(Clone, Copy)]
 pub struct Times {
     pub size: usize,
     pub timers: u64,

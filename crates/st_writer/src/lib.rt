@@ -15,7 +15,7 @@ pub mod operands;
 pub mod statements;
 
 // Where the code that was read ends, and where its print begins.
-#[derive(Drop)]
+#[derive(Clone, Copy)]
 pub struct Stretch {
     pub next: usize,
     pub to: usize,

@@ -23,7 +23,7 @@ pub mod reserved;
 const ST_ROOM: usize = 115998;
 
 // The length of the Structured Text, or a refusal's number and place.
-#[derive(Drop)]
+#[derive(Clone, Copy)]
 pub enum Written {
     Text(usize),
     Refused(u8, usize),

@@ -9,7 +9,7 @@ use libc::{STDIN_FILENO, STDOUT_FILENO};
 use tracer::Tracer;
 
 // Behind a part of the input, and whether all output was written.
-#[derive(Drop)]
+#[derive(Clone, Copy)]
 struct Progress {
     tracer: Tracer,
     is_written: bool,

@@ -18,7 +18,7 @@ pub const LONG_ROW: usize = 65;
 // ---- the text and the rows
 
 // Where the splitting of standard input has come to.
-#[derive(Drop)]
+#[derive(Clone, Copy)]
 pub enum Stage {
     // In the text, at the start of a line.
     LineStart,
@@ -31,14 +31,14 @@ pub enum Stage {
 }
 
 // The stage, and how many bytes of the text are stored.
-#[derive(Drop)]
+#[derive(Clone, Copy)]
 pub struct Split {
     pub stage: Stage,
     pub length: usize,
 }
 
 // The splitter behind a chunk, and the place where the rows begin (the chunk's end where none does).
-#[derive(Drop)]
+#[derive(Clone, Copy)]
 pub struct Divided {
     pub split: Split,
     pub rows: usize,
@@ -147,7 +147,7 @@ pub fn split_chunk(text: &mut [u8], s: Split, chunk: &[u8], from: usize) -> Divi
 // ---- the row of a line
 
 // Where the reading of a line has come to, with the count of its numbers so far.
-#[derive(Drop)]
+#[derive(Clone, Copy)]
 pub enum Line {
     // No byte yet.
     Start,

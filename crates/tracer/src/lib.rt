@@ -22,7 +22,7 @@ pub const TEXT_ROOM: usize = 32769;
 pub const OUTPUT_ROOM: usize = 65536;
 
 // Where the program stands between two parts of its input.
-#[derive(Drop)]
+#[derive(Clone, Copy)]
 pub enum Tracer {
     // In the text: how many of its bytes are stored. With the stage `Rows`, the text was refused.
     Text(Stage, usize),
@@ -31,7 +31,7 @@ pub enum Tracer {
 }
 
 // The bytes taken of a part, and the end of the bytes put out.
-#[derive(Drop)]
+#[derive(Clone, Copy)]
 pub struct Fed {
     pub tracer: Tracer,
     pub taken: usize,
@@ -39,7 +39,7 @@ pub struct Fed {
 }
 
 // Behind the text, with the end of the bytes put out.
-#[derive(Drop)]
+#[derive(Clone, Copy)]
 struct Opened {
     tracer: Tracer,
     put: usize,

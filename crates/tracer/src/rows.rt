@@ -16,7 +16,7 @@ use trace_text::Line;
 const LINE_ROOM: usize = 2048;
 
 // Behind a byte of the rows, with the end of the bytes put out.
-#[derive(Drop)]
+#[derive(Clone, Copy)]
 pub struct Traced {
     pub line: Line,
     pub number: u64,
@@ -24,7 +24,7 @@ pub struct Traced {
 }
 
 // The same behind a part of them.
-#[derive(Drop)]
+#[derive(Clone, Copy)]
 pub struct FedRows {
     pub line: Line,
     pub number: u64,

@@ -22,14 +22,14 @@ use lexer::{Place, Step};
 
 // The image's length; the counts of inputs, of names and of timers among them; the place where the rules end, and the count of the watches
 // there. Or a refusal's number and place.
-#[derive(Drop)]
+#[derive(Clone, Copy)]
 pub enum Analysis {
     Accepted(usize, usize, usize, usize, usize, usize),
     Refused(u8, usize),
 }
 
 // The image's length, or a refusal's number and place.
-#[derive(Drop)]
+#[derive(Clone, Copy)]
 pub enum Translated {
     Image(usize),
     Refused(u8, usize),

@@ -21,7 +21,7 @@ use lexer::Step;
 use translate::Analysis;
 
 // How many watches there are, each with its report; or a refusal's number and place.
-#[derive(Drop)]
+#[derive(Clone, Copy)]
 pub enum Watched {
     Count(usize),
     Refused(u8, usize),
