@@ -17,7 +17,7 @@ START = {"args", "ranges", "requires", "well_formed", "lifetimes"}
 
 def flat(s):
     s = re.sub(r"_lem\d*$", "", s)
-    return re.sub(r"-(\d+)$", r"\1", s.replace("_", "-"))
+    return re.sub(r"-(\d+)$", r"\1", s.replace("_", "-")).lower()
 
 
 class Function:
@@ -53,11 +53,14 @@ class Function:
         n = flat(name)
         if n in self.words:
             return self.words[n]
-        if n.startswith("Need-"):
+        if n.startswith("need-"):
             n = n[5:]
-            for m in (n, re.sub(r"^(overflow|nonzero|zero|bounds|shape-of|shift)-", "", n)):
+            for m in (n, re.sub(r"^(overflow|nonzero|zero|bounds|shape-of|shift|slice-bounds)-", "", n)):
                 if m in self.goals:
                     return "Need-" + self.goals[m]
+            for new in self.at:
+                if flat(new) == n:
+                    return "Need-" + new
             return None
         return self.types.get(n)
 
@@ -77,7 +80,7 @@ class Function:
         return None if p is None else n
 
     def back(self, p, k):
-        while k and p is not None:
+        while k and self.parent[p] is not None:
             p = self.parent[p]
             k -= 1
         return p
@@ -86,7 +89,8 @@ class Function:
         """The path from a variable at p to the fields `rest` of the place q, or None."""
         if rest[0] in START:
             return rest
-        field = flat(rest[0])
+        # a step's old name is one of its own on the way up
+        field, q = flat(rest[0]), p
         while q is not None and flat(self.places[q][2][0]) != field:
             q = self.parent[q]
         if q is None:
@@ -202,31 +206,23 @@ class File:
             bound = let.search(text, 0, m.start())
             bound = bound and bound.end() == m.start() and bound[1]
             ends = re.compile(r"\s+in\b").match(text, m.end())
-            if place is None:
-                self.say(f"no place {m[0]}")
-                continue
             if not rest:
-                if not fields:
-                    if bound and ends:
-                        vars[bound] = vars[v]
-                    continue
                 wanted = self.wanted(text[: m.start()])
-                if fields and wanted is not None:
-                    place = wanted
-                n = f.befores(start, place)
-                if n is None:
-                    if bound and ends:
-                        # inside an arm's one record: the name stays one for what is behind it
-                        new = root
-                        vars[bound] = (f, root, start, place, [])
-                        self.inside.add(bound)
-                    else:
-                        self.say(f"inside an arm: {m[0]}")
-                        continue
+                if wanted is not None and f.befores(start, wanted) is not None:
+                    new = root + ".before" * f.befores(start, wanted)
+                elif bound and ends:
+                    # what is behind the name is found from the root
+                    vars[bound] = (f, root, start, place, [])
+                    self.inside.add(bound)
+                    new = root
+                elif not fields and v not in self.inside:
+                    continue
                 else:
+                    n = f.befores(start, place)
+                    self.say(f"by count: {m[0]}")
+                    if n is None:
+                        continue
                     new = root + ".before" * n
-                    if bound and ends:
-                        vars[bound] = (f, bound, place, place, [])
             else:
                 got = f.step(start, place, rest)
                 own = f.step(start, place, prefix) if prefix else None
@@ -247,7 +243,12 @@ class File:
             out.append(new)
             at = m.end()
         out.append(text[at:])
-        return "".join(out)
+        text = "".join(out)
+        for v in self.inside:
+            # a name that nothing says any more
+            if len(re.findall(rf"(?<![^\s(){{}};,.]){re.escape(v)}(?![^\s(){{}};,.])", text)) == 1:
+                text = re.sub(rf"let {re.escape(v)} = \S+ in\s*", "", text)
+        return text
 
     def wanted(self, before):
         """The place that the helper asks for whose argument comes next."""
@@ -296,6 +297,9 @@ class File:
                     if new:
                         at_goal = (n, f, f.at[new[5:]])
                         new_goal = new[5:]
+                elif g and flat(g[2]) in self.modules[g[1]].types:
+                    f = self.modules[g[1]]
+                    position = (n, f, f.index[flat(g[2])])
                 n += len(re.findall(r"\S+", re.match(r"\s*\(([^:()]*):", s)[1])) if re.match(r"\s*\([^:()]*:", s) else 1
             sig = self.body(sig, vars)
             new_vars = {}
@@ -341,6 +345,9 @@ class File:
             spans = args_of(text, m.end())
             needs = [new for _, new in f.e["needs"]]
             pairs = self.aligned([text[a:b] for a, b in spans], needs)
+            skip = 2 * len(f.e["loops"])
+            if pairs is None and len(spans) == skip + len(needs):
+                pairs = [None] * skip + needs
             if pairs is None:
                 self.say(f"{len(spans)} arguments for {len(needs)} goals")
                 continue

@@ -62,7 +62,7 @@ timer-length a b c rest = simp length-append (omega arith)
 
 one_bytes : (v : ℕ) (x : Timer) (xs : List Timer) → eqb x.watched v ≡ true → length (bytes_t v (x ∷ xs)) ≡ timer_bytes x + length (bytes_t v xs)
 unfolding bytes_t
-one_bytes v x xs e = let q : x.watched ≡ v = eqb-true x.watched v e in rw (e, ← q) (timer-length (number x.id) (number x.watched) (number x.limit) (bytes_t x.watched xs))
+one_bytes v x xs e = let q : x.watched ≡ v = eqb-true x.watched v e in rw (e, q) (timer-length (number x.id) (number v) (number x.limit) (bytes_t v xs))
 
 other_bytes : (v : ℕ) (x : Timer) (xs : List Timer) → eqb x.watched v ≡ false → length (bytes_t v (x ∷ xs)) ≡ length (bytes_t v xs)
 unfolding bytes_t

@@ -85,6 +85,7 @@ others code n h k p =
     absurd (omega arith)
 
 passed : (ns : Setting) (s : State) (o : Option Instruction) (c : Bool) (vs : List ℤ) (t : State) → Other o → ok (machine true c vs t) ≡ stepped ns s o (machine true c vs t)
+passed ns s none c vs t x = elim x [ ]
 passed ns s (some i) c vs t (other j e) = rw e
 
 pub pass_other : (ns : Setting) (s : State) (code n : ℕ) (c : Bool) (vs : List ℤ) (t : State) → 1 ≤ code → code < 23 → (code ≡ 20 → ⊥)

@@ -6,21 +6,19 @@ use borrow.Author.Rules.{rules}
 use Rattle.checker.proofs.complete.Statement.{statement}
 use Rattle.checker.proofs.complete.Tie as tie
 
-returns : tie.Need-returns
-returns c = rw (empty_not c.before.before.args.w.held c.before.before.args.w.sorts c.if1.true)
+returns : tie.Need-returns-then-w-ne0
+returns c = rw (empty_not c.args.w.held c.args.w.sorts c.if-w-ne0.true)
 
-returns-2 : tie.Need-returns-2
-returns-2 c = rw (c.before.before.if1.false, sorts_none, open_yes c.before.before.before.before.args.w.gate c.if2.true)
+returns-2 : tie.Need-returns-then-w-ne0-2
+returns-2 c = rw (c.if-w-ne0.false, sorts_none, open_yes c.args.w.gate c.if-w-ne0-2.true)
 
-returns-3 : tie.Need-returns-3
-returns-3 c = rw (c.before.before.before.before.if1.false, sorts_none, c.before.before.if2.false, closed_not c.before.before.before.before.before.before.args.w.picking c.if3.true)
+returns-3 : tie.Need-returns-then-w-ne0-3
+returns-3 c = rw (c.if-w-ne0.false, sorts_none, c.if-w-ne0-2.false, closed_not c.args.w.picking c.if-w-ne0-3.true)
 
-returns-4 : tie.Need-returns-4
+returns-4 : tie.Need-returns
 returns-4 c =
-    let at-if1 = c.before.before.before.before.before.before in
-    let start = at-if1.before.before in
-    let w = start.args.w in
-    rw (at-if1.if1.false, sorts_none, c.before.before.before.before.if2.false, c.before.before.if3.false, c.before.ones.ensures, flags_all w.names w.known start.requires.known_low)
+    let w = c.args.w in
+    rw (c.if-w-ne0.false, sorts_none, c.if-w-ne0-2.false, c.if-w-ne0-3.false, c.ones.ensures, flags_all w.names w.known c.requires.known_low)
 
 pub complete_spec : {M : Type 1} → statement M
 complete_spec = tie.close (tie.spec returns returns-2 returns-3 (λ c κs. search rules) returns-4)

@@ -11,24 +11,24 @@ use Rattle.checker.proofs.Checking.{walked_sound, walked_broken}
 use Rattle.checker.proofs.survey_code.Statement.{statement}
 use Rattle.checker.proofs.survey_code.Tie as tie
 
-walk-from-requires : tie.Need-walk-from-requires
-walk-from-requires c κs = rw c.initial.ensures (initial_small _ _ c.before.before.before.requires.extends.inputs_named c.before.before.before.requires.extends.few)
+walk-from-requires : tie.Need-walk_from-requires
+walk-from-requires c κs = rw c.initial.ensures (initial_small _ _ c.requires.extends.inputs_named c.requires.extends.few)
 
-add-t13 : tie.Need-overflow-add-t13
+add-t13 : tie.Need-overflow_add-result
 add-t13 c =
-    let w = rw (rest_of c.before.before.before.before.before.before.before.args.image.now c.before.before.before.before.before.before.before.args.place, length-drop) at (subst (VerdictWithin (length (take (length c.before.before.before.before.before.before.before.args.image.now - c.before.before.before.before.before.before.before.args.place) (drop c.before.before.before.before.before.before.before.args.place c.before.before.before.before.before.before.before.args.image.now)))) c.before.at.given.1 c.before.before.before.walk_from.ensures.1) in
-    omega (arith, w, c.before.before.before.before.before.before.before.requires.extends.inside, c.before.before.before.before.before.before.before.requires.short)
+    let w = rw (rest_of c.args.image.now c.args.place, length-drop) at (subst (VerdictWithin (length (take (length c.args.image.now - c.args.place) (drop c.args.place c.args.image.now)))) c.in-Broken.is c.walk_from.ensures.1) in
+    omega (arith, w, c.requires.extends.inside, c.requires.short)
 
-returns : tie.Need-returns
+returns : tie.Need-returns-in-Sound
 returns c =
-    let j = rw (rest_of c.before.before.before.before.before.before.args.image.now c.before.before.before.before.before.before.args.place, c.before.before.before.initial.ensures, c.enum_told.given.1) at c.before.before.walk_from.ensures.0 in
-    walked_sound c.before.before.before.before.before.before.args.image.now c.before.before.before.before.before.before.requires.short _ _ _ c.before.before.before.before.before.before.requires j
+    let j = rw (rest_of c.args.image.now c.args.place, c.initial.ensures, c.in-Sound.is) at c.walk_from.ensures.0 in
+    walked_sound c.args.image.now c.requires.short _ _ _ c.requires j
 
-returns-2 : tie.Need-returns-2
+returns-2 : tie.Need-returns-in-Broken
 returns-2 c =
-    let j = rw (rest_of c.before.before.before.before.before.before.before.args.image.now c.before.before.before.before.before.before.before.args.place, c.before.before.before.before.initial.ensures, c.before.at.given.1) at c.before.before.before.walk_from.ensures.0 in
-    let w = rw (rest_of c.before.before.before.before.before.before.before.args.image.now c.before.before.before.before.before.before.before.args.place, length-drop) at (subst (VerdictWithin (length (take (length c.before.before.before.before.before.before.before.args.image.now - c.before.before.before.before.before.before.before.args.place) (drop c.before.before.before.before.before.before.before.args.place c.before.before.before.before.before.before.before.args.image.now)))) c.before.at.given.1 c.before.before.before.walk_from.ensures.1) in
-    (walked_broken c.before.before.before.before.before.before.before.args.image.now c.before.before.before.before.before.before.before.requires.short _ _ _ c.before.before.before.before.before.before.before.requires c.before.at.given.0.0 j, omega (arith, w, c.before.before.before.before.before.before.before.requires.extends.inside, c.before.before.before.before.before.before.before.requires.short))
+    let j = rw (rest_of c.args.image.now c.args.place, c.initial.ensures, c.in-Broken.is) at c.walk_from.ensures.0 in
+    let w = rw (rest_of c.args.image.now c.args.place, length-drop) at (subst (VerdictWithin (length (take (length c.args.image.now - c.args.place) (drop c.args.place c.args.image.now)))) c.in-Broken.is c.walk_from.ensures.1) in
+    (walked_broken c.args.image.now c.requires.short _ _ _ c.requires c.in-Broken.at j, omega (arith, w, c.requires.extends.inside, c.requires.short))
 
 pub survey_code_spec : {M : Type 1} → statement M
 survey_code_spec =

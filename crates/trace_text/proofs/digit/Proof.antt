@@ -8,22 +8,22 @@ use Rattle.trace_text.proofs.Decimals.{digit_low}
 use Rattle.trace_text.proofs.digit.Statement.{statement}
 use Rattle.trace_text.proofs.digit.Tie as tie
 
-returns : tie.Need-returns
+returns : tie.Need-returns-then-not-is_digit
 unfolding digit_after
-returns c = rw (sym c.before.is_digit.ensures ∙ not-true _ c.if1.true)
+returns c = rw (sym c.is_digit.ensures ∙ not-true _ c.if-not-is_digit.true-raw)
 
 longer-requires : tie.Need-longer-requires
 longer-requires c κs =
     let at-if1 = c.before in
-    rw c.wide.ensures (digit_low _ (sym at-if1.before.is_digit.ensures ∙ not-false _ at-if1.if1.false))
+    rw c.wide.ensures (digit_low _ (sym at-if1.is_digit.ensures ∙ not-false _ at-if1.if-not-is_digit.false-raw))
 
-returns-2 : tie.Need-returns-2
+returns-2 : tie.Need-returns
 unfolding digit_after
 returns-2 c =
     let at-if1 = c.before.before in
     let start = at-if1.before.before in
-    rw (sym at-if1.before.is_digit.ensures ∙ not-false _ at-if1.if1.false)
-    (c.longer.ensures ∙ ap (λ (x : ℕ). longer_by start.args.n start.args.negative start.args.v (x % 16)) c.before.wide.ensures)
+    rw (sym at-if1.is_digit.ensures ∙ not-false _ at-if1.if-not-is_digit.false-raw)
+    (c.longer.ensures ∙ ap (λ (x : ℕ). longer_by start.args.n start.args.negative start.args.v (x % 16)) c.wide.ensures)
 
 pub digit_spec : {M : Type 1} → statement M
 digit_spec = tie.close (tie.spec (λ c κs. search rules) returns (λ c κs. search rules) longer-requires returns-2)

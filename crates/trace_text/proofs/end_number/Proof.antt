@@ -11,21 +11,21 @@ use Rattle.trace_text.proofs.end_number.Statement.{statement}
 use Rattle.trace_text.proofs.end_number.Tie as tie
 
 signed-requires : tie.Need-signed-requires
-signed-requires c κs = sym c.before.before.before.in_range_lem.ensures ∙ c.before.before.if1.true
+signed-requires c κs = sym c.in_range.ensures ∙ c.if-in_range.true
 
-returns : tie.Need-returns
+returns : tie.Need-returns-then-n-lt-NAME_LIMIT
 unfolding cells_end
 returns c =
-    let f : SFits w32 c.before.before.signed.result = search rules in
-    rw (sym c.before.before.before.before.before.before.in_range_lem.ensures ∙ c.before.before.before.before.before.if1.true, lt-ltb _ 64 c.before.before.before.before.if2.true) (refl, c.before.store.ensures ∙ ap (set c.before.before.before.before.before.before.before.args.cells.now c.before.before.before.before.before.before.before.args.n) (same32 f ∙ c.before.before.signed.ensures))
+    let f : SFits w32 c.signed.result = search rules in
+    rw (sym c.in_range.ensures ∙ c.if-in_range.true, lt-ltb _ 64 c.if-n-lt-NAME_LIMIT.true) (refl, c.store.ensures ∙ ap (set c.args.cells.now c.args.n) (same32 f ∙ c.signed.ensures))
 
-returns-2 : tie.Need-returns-2
+returns-2 : tie.Need-returns-else-n-lt-NAME_LIMIT
 unfolding cells_end
-returns-2 c = rw (sym c.before.before.in_range_lem.ensures ∙ c.before.if1.true, le-ltb _ 64 c.if2.false) (refl, refl)
+returns-2 c = rw (sym c.in_range.ensures ∙ c.if-in_range.true, le-ltb _ 64 c.if-n-lt-NAME_LIMIT.false) (refl, refl)
 
-returns-3 : tie.Need-returns-3
+returns-3 : tie.Need-returns-else-in_range
 unfolding cells_end
-returns-3 c = rw (sym c.before.in_range_lem.ensures ∙ c.if1.false) (refl, refl)
+returns-3 c = rw (sym c.in_range.ensures ∙ c.if-in_range.false) (refl, refl)
 
 pub end_number_spec : {M : Type 1} → statement M
 end_number_spec =

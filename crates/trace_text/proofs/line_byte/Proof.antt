@@ -5,24 +5,24 @@ use Rattle.trace_text.specs.Inner.Stages.{line_after, cells_after}
 use Rattle.trace_text.proofs.line_byte.Statement.{statement}
 use Rattle.trace_text.proofs.line_byte.Tie as tie
 
-returns : tie.Need-returns
+returns : tie.Need-returns-in-Start
 unfolding line_after cells_after
-returns c = rw c.before.enum_told.given.1 (c.begin.ensures, refl)
+returns c = rw c.in-Start.is (c.begin.ensures, refl)
 
-returns-2 : tie.Need-returns-2
+returns-2 : tie.Need-returns-in-Wanted
 unfolding line_after cells_after
-returns-2 c = rw c.before.before.s.given.1 (c.begin2.ensures, refl)
+returns-2 c = rw c.in-Wanted.is (c.begin-in-Wanted.ensures, refl)
 
-returns-3 : tie.Need-returns-3
+returns-3 : tie.Need-returns-in-Minus
 unfolding line_after cells_after
-returns-3 c = rw c.before.before.s2.given.1 (c.digit.ensures, refl)
+returns-3 c = rw c.in-Minus.is (c.digit.ensures, refl)
 
-returns-4 : tie.Need-returns-4
-returns-4 c = rw c.before.before.before.before.s3.given.1 c.before.number-byte.ensures
+returns-4 : tie.Need-returns-in-Number
+returns-4 c = rw c.in-Number.is c.number_byte.ensures
 
-returns-5 : tie.Need-returns-5
+returns-5 : tie.Need-returns-in-NoRow
 unfolding line_after cells_after
-returns-5 c = rw c.enum-told2.given.1 (refl, refl)
+returns-5 c = rw c.in-NoRow.is (refl, refl)
 
 pub line_byte_spec : {M : Type 1} → statement M
 line_byte_spec =

@@ -8,22 +8,22 @@ use Rattle.trace_text.proofs.Lines.{counted}
 use Rattle.trace_text.proofs.number_byte.Statement.{statement}
 use Rattle.trace_text.proofs.number_byte.Tie as tie
 
-add-t10 : tie.Need-overflow-add-t10
+add-t10 : tie.Need-overflow_add-result
 add-t10 c =
     let start = c.before.before.before.before.before in
-    omega (arith, counted start.args.n start.args.negative start.args.v (sym c.before.before.end_number.ensures.0 ∙ c.if2.true))
+    omega (arith, counted start.args.n start.args.negative start.args.v (sym c.end_number.ensures.0 ∙ c.if-end_number.true))
 
-returns : tie.Need-returns
+returns : tie.Need-returns-then-end_number
 unfolding line_after cells_after
-returns c = rw (eq-eqb _ 32 c.before.before.before.before.if1.true, sym c.before.before.end_number.ensures.0 ∙ c.if2.true) (refl, c.before.before.end_number.ensures.1)
+returns c = rw (eq-eqb _ 32 c.if-b-eq32.true, sym c.end_number.ensures.0 ∙ c.if-end_number.true) (refl, c.end_number.ensures.1)
 
-returns-2 : tie.Need-returns-2
+returns-2 : tie.Need-returns-then-b-eq32
 unfolding line_after cells_after
-returns-2 c = rw (eq-eqb _ 32 c.before.before.before.before.if1.true, sym c.before.before.end_number.ensures.0 ∙ c.if2.false) (refl, c.before.before.end_number.ensures.1)
+returns-2 c = rw (eq-eqb _ 32 c.if-b-eq32.true, sym c.end_number.ensures.0 ∙ c.if-end_number.false) (refl, c.end_number.ensures.1)
 
-returns-3 : tie.Need-returns-3
+returns-3 : tie.Need-returns
 unfolding line_after cells_after
-returns-3 c = rw (ne_eqb _ 32 c.before.if1.false) (c.digit.ensures, refl)
+returns-3 c = rw (ne_eqb _ 32 c.if-b-eq32.false) (c.digit.ensures, refl)
 
 pub number_byte_spec : {M : Type 1} → statement M
 number_byte_spec =

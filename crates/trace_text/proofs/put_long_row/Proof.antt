@@ -12,25 +12,25 @@ use Rattle.trace_text.specs.Row.{long_row}
 use Rattle.trace_text.proofs.put_long_row.Statement.{statement}
 use Rattle.trace_text.proofs.put_long_row.Tie as tie
 
-abbrev invariant_loop : tie.invariant_loop
+abbrev invariant_loop : tie.invariant-loop-i
 invariant_loop cells₀ i₀ cells i = (i ≤ 65) × (sets cells i (replicate (65 - i) (pos 0)) ≡ sets cells₀ 0 long_row)
 
-abbrev decreases_loop : tie.decreases_loop
+abbrev decreases_loop : tie.decreases-loop-i
 decreases_loop cells₀ i₀ cells i = 65 - i
 
-loop-holds : tie.Need-loop-init invariant_loop decreases_loop
+loop-holds : tie.Need-loop-i-init invariant_loop decreases_loop
 unfolding long_row
 loop-holds c = (omega arith, refl)
 
-loop-again : tie.Need-loop-preserved invariant_loop decreases_loop
+loop-again : tie.Need-loop-i-preserved invariant_loop decreases_loop
 loop-again c =
     let at-loop = c.before.before.before.before in
-    let e : 65 - at-loop.loop.i ≡ suc (65 - (at-loop.loop.i + 1)) = omega arith in
-    (omega arith, rw (c.before.store.ensures, add-one) (rw (e, add-one) at at-loop.loop.invariant.1))
+    let e : 65 - at-loop.loop-i.i ≡ suc (65 - (at-loop.loop-i.i + 1)) = omega arith in
+    (omega arith, rw (c.store.ensures, add-one) (rw (e, add-one) at at-loop.loop-i.invariant.1))
 
 -- the cells at the end
-stored : (c : tie.After-loop invariant_loop decreases_loop) → c.before.loop.cells ≡ sets c.before.before.args.cells.now 0 long_row
-stored c = let e : 65 - c.before.loop.i ≡ 0 = omega arith in rw e at c.before.loop.invariant.1
+stored : (c : tie.After-loop-i invariant_loop decreases_loop) → c.loop-i.cells ≡ sets c.args.cells.now 0 long_row
+stored c = let e : 65 - c.loop-i.i ≡ 0 = omega arith in rw e at c.loop-i.invariant.1
 
 pub put_long_row_spec : {M : Type 1} → statement M
 put_long_row_spec =

@@ -6,32 +6,32 @@ use Rattle.trace_text.proofs.Puts.{put_nothing, put_then}
 use Rattle.trace_text.proofs.put_text.Statement.{statement}
 use Rattle.trace_text.proofs.put_text.Tie as tie
 
-returns : tie.Need-returns
+returns : tie.Need-returns-then-b-eq35
 unfolding text_after
-returns c = rw (c.before.before.enum_told.given.1, eq-eqb _ 35 c.before.if1.true, c.clip.ensures) (put_nothing _ _)
+returns c = rw (c.in-LineStart.is, eq-eqb _ 35 c.if-b-eq35.true, c.clip.ensures) (put_nothing _ _)
 
-returns-2 : tie.Need-returns-2
+returns-2 : tie.Need-returns-then-b-eq10
 unfolding text_after
-returns-2 c = rw (c.before.before.enum-told3.given.1, eq-eqb _ 10 c.before.if2.true, c.clip2.ensures) (put_nothing _ _)
+returns-2 c = rw (c.in-Hash.is, eq-eqb _ 10 c.if-b-eq10.true, c.clip-then-b-eq10.ensures) (put_nothing _ _)
 
-returns-3 : tie.Need-returns-3
+returns-3 : tie.Need-returns-else-b-eq35
 unfolding text_after
-returns-3 c = rw (c.before.before.before.before.before.enum_told.given.1, ne_eqb _ 35 c.before.before.before.before.if1.false) c.before.before.put_byte.ensures
+returns-3 c = rw (c.in-LineStart.is, ne_eqb _ 35 c.if-b-eq35.false) c.put_byte.ensures
 
-returns-4 : tie.Need-returns-4
+returns-4 : tie.Need-returns-in-InLine
 unfolding text_after
-returns-4 c = rw c.before.before.before.before.enum-told2.given.1 c.before.before.put-byte2.ensures
+returns-4 c = rw c.in-InLine.is c.put_byte-in-InLine.ensures
 
-returns-5 : tie.Need-returns-5
+returns-5 : tie.Need-returns-else-b-eq10
 unfolding text_after
 returns-5 c =
     let at-put-byte3 = c.before.before.before.before.before.before in
     let at-if2 = at-put-byte3.before.before in
-    rw (at-if2.before.enum-told3.given.1, ne_eqb _ 10 at-if2.if2.false) (put_then at-put-byte3.put-byte3.ensures c.before.before.put-byte4.ensures)
+    rw (at-if2.in-Hash.is, ne_eqb _ 10 at-if2.if-b-eq10.false) (put_then at-put-byte3.put_byte-next.ensures c.put_byte-in-Hash.ensures)
 
-returns-6 : tie.Need-returns-6
+returns-6 : tie.Need-returns-in-Rows
 unfolding text_after
-returns-6 c = rw (c.before.enum-told4.given.1, c.clip3.ensures) (put_nothing _ _)
+returns-6 c = rw (c.in-Rows.is, c.clip-in-Rows.ensures) (put_nothing _ _)
 
 pub put_text_spec : {M : Type 1} → statement M
 put_text_spec =

@@ -37,26 +37,26 @@ negated : (v : ℕ) → (v ≡ 0 → ⊥) → negsuc (v - 1) ≡ neg_ℤ (pos v)
 negated zero n = absurd (n refl)
 negated (suc v) n = ap negsuc (omega arith)
 
-returns : tie.Need-returns
-returns c = rw c.if1.true (sign_of_zero c.before.args.negative)
+returns : tie.Need-returns-then-v-eq0
+returns c = rw c.if-v-eq0.true (sign_of_zero c.args.negative)
 
-cast-before : tie.Need-overflow-cast-before
-cast-before c = record { sfits = before c.before.before.args.v (in_32 c.before.before.args.negative c.before.before.args.v c.before.before.requires) c.before.if1.false }
+cast-before : tie.Need-overflow_cast-before
+cast-before c = record { sfits = before c.args.v (in_32 c.args.negative c.args.v c.requires) c.if-v-eq0.false }
 
-sub-result : tie.Need-overflow-sub-result
+sub-result : tie.Need-overflow_sub-result
 sub-result c =
-    rw (to_z_pos w32 (before c.before.before.args.v (in_32 c.before.before.args.negative c.before.before.args.v c.before.before.requires) c.before.if1.false), mirror_pos) (record { sfits = before c.before.before.args.v (in_32 c.before.before.args.negative c.before.before.args.v c.before.before.requires) c.before.if1.false })
+    rw (to_z_pos w32 (before c.args.v (in_32 c.args.negative c.args.v c.requires) c.if-v-eq0.false), mirror_pos) (record { sfits = before c.args.v (in_32 c.args.negative c.args.v c.requires) c.if-v-eq0.false })
 
-returns-2 : tie.Need-returns-2
+returns-2 : tie.Need-returns-then-negative
 returns-2 c =
-    let h = before c.before.before.args.v (in_32 c.before.before.args.negative c.before.before.args.v c.before.before.requires) c.before.if1.false in
-    rw (to_z_pos w32 h, mirror_pos, same32 (below h), c.if2.true) (negated c.before.before.args.v c.before.if1.false)
+    let h = before c.args.v (in_32 c.args.negative c.args.v c.requires) c.if-v-eq0.false in
+    rw (to_z_pos w32 h, mirror_pos, same32 (below h), c.if-negative.true) (negated c.args.v c.if-v-eq0.false)
 
-cast-result : tie.Need-overflow-cast-result
-cast-result c = record { sfits = plain c.before.before.args.v (rw c.if2.false at c.before.before.requires) }
+cast-result : tie.Need-overflow_cast-result
+cast-result c = record { sfits = plain c.args.v (rw c.if-negative.false at c.requires) }
 
-returns-3 : tie.Need-returns-3
-returns-3 c = rw (to_z_pos w32 (plain c.before.before.args.v (rw c.if2.false at c.before.before.requires)), c.if2.false)
+returns-3 : tie.Need-returns
+returns-3 c = rw (to_z_pos w32 (plain c.args.v (rw c.if-negative.false at c.requires)), c.if-negative.false)
 
 pub signed_spec : {M : Type 1} → statement M
 signed_spec = tie.close (tie.spec returns (λ c. search rules) cast-before sub-result returns-2 cast-result returns-3)

@@ -5,29 +5,29 @@ use Rattle.trace_text.specs.Inner.Stages.{stage_after}
 use Rattle.trace_text.proofs.stage_after.Statement.{statement}
 use Rattle.trace_text.proofs.stage_after.Tie as tie
 
-returns : tie.Need-returns
+returns : tie.Need-returns-then-b-eq35
 unfolding stage_after
-returns c = rw (c.before.enum_told.given.1, eq-eqb _ 35 c.if1.true)
+returns c = rw (c.in-LineStart.is, eq-eqb _ 35 c.if-b-eq35.true)
 
-returns-2 : tie.Need-returns-2
+returns-2 : tie.Need-returns-then-b-eq10
 unfolding stage_after
-returns-2 c = rw (c.before.enum-told3.given.1, eq-eqb _ 10 c.if2.true)
+returns-2 c = rw (c.in-Hash.is, eq-eqb _ 10 c.if-b-eq10.true)
 
-returns-3 : tie.Need-returns-3
+returns-3 : tie.Need-returns-else-b-eq35
 unfolding stage_after
-returns-3 c = rw (c.before.before.enum_told.given.1, ne_eqb _ 35 c.before.if1.false) c.text-stage.ensures
+returns-3 c = rw (c.in-LineStart.is, ne_eqb _ 35 c.if-b-eq35.false) c.text_stage.ensures
 
-returns-4 : tie.Need-returns-4
+returns-4 : tie.Need-returns-in-InLine
 unfolding stage_after
-returns-4 c = rw c.before.enum-told2.given.1 c.text-stage2.ensures
+returns-4 c = rw c.in-InLine.is c.text_stage-in-InLine.ensures
 
-returns-5 : tie.Need-returns-5
+returns-5 : tie.Need-returns-else-b-eq10
 unfolding stage_after
-returns-5 c = rw (c.before.enum-told3.given.1, ne_eqb _ 10 c.if2.false)
+returns-5 c = rw (c.in-Hash.is, ne_eqb _ 10 c.if-b-eq10.false)
 
-returns-6 : tie.Need-returns-6
+returns-6 : tie.Need-returns-in-Rows
 unfolding stage_after
-returns-6 c = rw c.enum-told4.given.1
+returns-6 c = rw c.in-Rows.is
 
 pub stage_after_spec : {M : Type 1} → statement M
 stage_after_spec =

@@ -7,28 +7,25 @@ use borrow.Author.Rules.{rules}
 use Rattle.checker.proofs.advance.assign.Statement.{statement}
 use Rattle.checker.proofs.advance.assign.Tie as tie
 
-returns : tie.Need-returns
-returns c = (rw (assign_is, open_yes c.before.before.args.w.gate c.if1.true), tt)
+returns : tie.Need-returns-then-w-ne0
+returns c = (rw (assign_is, open_yes c.args.w.gate c.if-w-ne0.true), tt)
 
-returns-2 : tie.Need-returns-2
-returns-2 c = (rw (assign_is, c.before.before.if1.false, sym c.before.holds-only.ensures ∙ not-true _ c.if2.true), tt)
+returns-2 : tie.Need-returns-then-not-holds_only
+returns-2 c = (rw (assign_is, c.if-w-ne0.false, sym c.holds_only.ensures ∙ not-true _ c.if-not-holds_only.true-raw), tt)
 
-returns-3 : tie.Need-returns-3
-returns-3 c = (rw (assign_is, c.before.before.before.before.if1.false, sym c.before.before.before.holds-only.ensures ∙ not-false _ c.before.before.if2.false, sym c.before.is-unset.ensures ∙ not-true _ c.if3.true), tt)
+returns-3 : tie.Need-returns-then-not-is_unset
+returns-3 c = (rw (assign_is, c.if-w-ne0.false, sym c.holds_only.ensures ∙ not-false _ c.if-not-holds_only.false-raw, sym c.is_unset.ensures ∙ not-true _ c.if-not-is_unset.true-raw), tt)
 
-returns-4 : tie.Need-returns-4
+returns-4 : tie.Need-returns-then-w-ne0-2
 returns-4 c =
-    let at-holds-only = c.before.before.before.before.before in
-    (rw (assign_is, at-holds-only.before.if1.false, sym at-holds-only.holds-only.ensures ∙ not-false _ c.before.before.before.before.if2.false, sym c.before.before.before.is-unset.ensures ∙ not-false _ c.before.before.if3.false, closed_not _ c.if4.true), tt)
+    (rw (assign_is, c.if-w-ne0.false, sym c.holds_only.ensures ∙ not-false _ c.if-not-holds_only.false-raw, sym c.is_unset.ensures ∙ not-false _ c.if-not-is_unset.false-raw, closed_not _ c.if-w-ne0-2.true), tt)
 
 ruled-requires : tie.Need-ruled-requires
-ruled-requires c κs = (c.before.before.before.before.before.before.before.before.requires, sym c.before.before.before.is-unset.ensures ∙ not-false _ c.before.before.if3.false)
+ruled-requires c κs = (c.requires, sym c.is_unset.ensures ∙ not-false _ c.if-not-is_unset.false-raw)
 
-returns-5 : tie.Need-returns-5
+returns-5 : tie.Need-returns
 returns-5 c =
-    let at-if2 = c.before.before.before.before.before in
-    let at-holds-only = at-if2.before in
-    (rw (assign_is, at-holds-only.before.if1.false, sym at-holds-only.holds-only.ensures ∙ not-false _ at-if2.if2.false, sym c.before.before.before.before.is-unset.ensures ∙ not-false _ c.before.before.before.if3.false, c.before.if4.false) (ap some c.ruled.ensures.0), c.ruled.ensures.1)
+    (rw (assign_is, c.if-w-ne0.false, sym c.holds_only.ensures ∙ not-false _ c.if-not-holds_only.false-raw, sym c.is_unset.ensures ∙ not-false _ c.if-not-is_unset.false-raw, c.if-w-ne0-2.false) (ap some c.ruled.ensures.0), c.ruled.ensures.1)
 
 pub assign_spec : {M : Type 1} → statement M
 assign_spec =

@@ -5,16 +5,15 @@ use Rattle.checker.proofs.Steps.{only_other, only_one}
 use Rattle.checker.proofs.advance.holds_only.Statement.{statement}
 use Rattle.checker.proofs.advance.holds_only.Tie as tie
 
-returns : tie.Need-returns
+returns : tie.Need-returns-then-w-ne1
 returns c =
-    let a = c.before.before.args in
-    sym (only_other (sort_of a.sort) a.w.held a.w.sorts c.if1.true)
+    let a = c.args in
+    sym (only_other (sort_of a.sort) a.w.held a.w.sorts c.if-w-ne1.true)
 
-returns-2 : tie.Need-returns-2
+returns-2 : tie.Need-returns
 returns-2 c =
-    let start = c.before.before.before in
-    let a = start.args in
-    rw c.before.if1.false (sym (only_one a.w.sorts a.sort start.requires))
+    let a = c.args in
+    rw c.if-w-ne1.false (sym (only_one a.w.sorts a.sort c.requires))
 
 pub holds_only_spec : {M : Type 1} → statement M
 holds_only_spec = tie.close (tie.spec returns returns-2)

@@ -5,8 +5,8 @@ use Rattle.arith.proofs.Flags.{flag_at, flag_out}
 use Rattle.checker.proofs.advance.is_known.Statement.{statement}
 use Rattle.checker.proofs.advance.is_known.Tie as tie
 
-returns-2 : tie.Need-returns-2
-returns-2 c = c.bit.ensures ∙ sym (flag_at _ _ _ c.before.if1.false)
+returns-2 : tie.Need-returns
+returns-2 c = c.bit.ensures ∙ sym (flag_at _ _ _ c.if-w-id.false)
 
 pub is_known_spec : {M : Type 1} → statement M
-is_known_spec = tie.close (tie.spec (λ c. sym (flag_out _ _ _ c.if1.true)) (λ c κs. search rules) returns-2)
+is_known_spec = tie.close (tie.spec (λ c. sym (flag_out _ _ _ c.if-w-id.true)) (λ c κs. search rules) returns-2)

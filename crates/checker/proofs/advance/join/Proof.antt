@@ -8,32 +8,28 @@ use native.Mathlib.Omega.{arith}
 use Rattle.checker.proofs.advance.join.Statement.{statement}
 use Rattle.checker.proofs.advance.join.Tie as tie
 
-returns : tie.Need-returns
+returns : tie.Need-returns-then-w-lt2
 returns c =
-    let a = c.before.before.args in
-    (sym (joined_few a.w a.sort (sort_of a.result) c.if1.true), tt)
+    let a = c.args in
+    (sym (joined_few a.w a.sort (sort_of a.result) c.if-w-lt2.true), tt)
 
-returns-2 : tie.Need-returns-2
+returns-2 : tie.Need-returns-then-w-sort
 returns-2 c =
-    let start = c.before.before.before.before in
-    let a = start.args in
-    (sym (joined_first a.w a.sort (sort_of a.result) start.requires.1 c.before.before.if1.false c.if2.true), tt)
+    let a = c.args in
+    (sym (joined_first a.w a.sort (sort_of a.result) c.requires.1 c.if-w-lt2.false c.if-w-sort.true), tt)
 
-returns-3 : tie.Need-returns-3
+returns-3 : tie.Need-returns-then-below-sort
 returns-3 c =
-    let start = c.before.before.before.before.before.before in
-    let a = start.args in
-    (sym (joined_second a.w a.sort (sort_of a.result) start.requires.1 c.before.before.before.before.if1.false c.before.before.if2.false c.if3.true), tt)
+    let a = c.args in
+    (sym (joined_second a.w a.sort (sort_of a.result) c.requires.1 c.if-w-lt2.false c.if-w-sort.false c.if-below-sort.true), tt)
 
-returns-4 : tie.Need-returns-4
+returns-4 : tie.Need-returns
 returns-4 c =
-    let at-if1 = c.before.before.before.before.before in
-    let start = at-if1.before.before in
-    let p = start.requires in
-    let a = start.args in
+    let p = c.requires in
+    let a = c.args in
     let w = a.w in
-    let h = at-if1.if1.false in (
-      rw (joined_both w a.sort (sort_of a.result) p.1 h c.before.before.before.if2.false c.before.if3.false, sorts_join w.held w.sorts a.result h p.2),
+    let h = c.if-w-lt2.false in (
+      rw (joined_both w a.sort (sort_of a.result) p.1 h c.if-w-sort.false c.if-below-sort.false, sorts_join w.held w.sorts a.result h p.2),
       record {
         few_held = omega (arith, p.0.few_held);
         sorts_low = join_low w.held w.sorts a.result h p.0.sorts_low p.2;

@@ -5,8 +5,8 @@ use borrow.Author.Rules.{rules}
 use Rattle.checker.proofs.advance.may_settle.Statement.{statement}
 use Rattle.checker.proofs.advance.may_settle.Tie as tie
 
-returns-2 : tie.Need-returns-2
-returns-2 c = sym (opened_other _ _ c.before.if1.false)
+returns-2 : tie.Need-returns
+returns-2 c = sym (opened_other _ _ c.if-w-id.false)
 
 pub may_settle_spec : {M : Type 1} → statement M
-may_settle_spec = tie.close (tie.spec (λ c. search rules) (λ c. search rules) (λ c. sym (opened_level _ _ c.if1.true)) (λ c. search rules) (λ c. search rules) returns-2)
+may_settle_spec = tie.close (tie.spec (λ c. search rules) (λ c. search rules) (λ c. sym (opened_level _ _ c.if-w-id.true)) (λ c. search rules) (λ c. search rules) returns-2)

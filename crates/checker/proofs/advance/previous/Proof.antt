@@ -6,9 +6,9 @@ use borrow.Author.Rules.{rules}
 use Rattle.checker.proofs.advance.previous.Statement.{statement}
 use Rattle.checker.proofs.advance.previous.Tie as tie
 
-returns : tie.Need-returns
+returns : tie.Need-returns-then-id-w
 unfolding pushed
-returns c = (rw (length_flags, lt-ltb _ _ c.before.if1.true) c.push.ensures.0, c.push.ensures.1)
+returns c = (rw (length_flags, lt-ltb _ _ c.if-id-w.true) c.push.ensures.0, c.push.ensures.1)
 
 pub previous_spec : {M : Type 1} → statement M
-previous_spec = tie.close (tie.spec (λ c κs. search rules) returns (λ c. (rw (length_flags, le-ltb _ _ c.if1.false), tt)))
+previous_spec = tie.close (tie.spec (λ c κs. search rules) returns (λ c. (rw (length_flags, le-ltb _ _ c.if-id-w.false), tt)))

@@ -7,23 +7,22 @@ use native.Mathlib.Omega.{arith}
 use Rattle.checker.proofs.advance.push.Statement.{statement}
 use Rattle.checker.proofs.advance.push.Tie as tie
 
-returns : tie.Need-returns
+returns : tie.Need-returns-then-w
 unfolding pushed
-returns c = (rw (length_sorts, le-ltb _ _ c.if1.true), tt)
+returns c = (rw (length_sorts, le-ltb _ _ c.if-w.true), tt)
 
-mul-k : tie.Need-overflow-mul-k
+mul-k : tie.Need-overflow_mul-k
 mul-k c =
-    let p = c.before.before.before.before.requires in
+    let p = c.requires in
     record { fits = omega (arith, below_40 _ _ p.few_held p.sorts_low) }
 
-returns-2 : tie.Need-returns-2
+returns-2 : tie.Need-returns
 unfolding pushed
 returns-2 c =
-    let start = c.before.before.before.before in
-    let p = start.requires in
-    let w = start.args.w in (
-      rw (length_sorts, lt-ltb _ _ c.before.before.if1.false, sorts_number),
-      record { few_held = omega (arith, c.before.before.if1.false); sorts_low = number_low w.held w.sorts p.sorts_low; few_names = p.few_names; known_low = p.known_low },
+    let p = c.requires in
+    let w = c.args.w in (
+      rw (length_sorts, lt-ltb _ _ c.if-w.false, sorts_number),
+      record { few_held = omega (arith, c.if-w.false); sorts_low = number_low w.held w.sorts p.sorts_low; few_names = p.few_names; known_low = p.known_low },
     )
 
 pub push_spec : {M : Type 1} → statement M

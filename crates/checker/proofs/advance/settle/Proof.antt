@@ -8,25 +8,24 @@ use borrow.Author.Rules.{rules}
 use Rattle.checker.proofs.advance.settle.Statement.{statement}
 use Rattle.checker.proofs.advance.settle.Tie as tie
 
-returns : tie.Need-returns
-returns c = (rw (open_yes c.before.before.args.w.gate c.if1.true), tt)
+returns : tie.Need-returns-then-w-ne0
+returns c = (rw (open_yes c.args.w.gate c.if-w-ne0.true), tt)
 
-returns-2 : tie.Need-returns-2
-returns-2 c = (rw (c.before.before.if1.false, empty_not _ _ c.if2.true), tt)
+returns-2 : tie.Need-returns-then-w-ne0-2
+returns-2 c = (rw (c.if-w-ne0.false, empty_not _ _ c.if-w-ne0-2.true), tt)
 
-returns-3 : tie.Need-returns-3
-returns-3 c = (rw (c.before.before.before.before.if1.false, c.before.before.if2.false, sorts_none, sym c.before.is-unset.ensures ∙ not-true _ c.if3.true), tt)
+returns-3 : tie.Need-returns-then-not-is_unset
+returns-3 c = (rw (c.if-w-ne0.false, c.if-w-ne0-2.false, sorts_none, sym c.is_unset.ensures ∙ not-true _ c.if-not-is_unset.true-raw), tt)
 
-returns-4 : tie.Need-returns-4
-returns-4 c = (rw (c.before.before.before.before.before.before.if1.false, c.before.before.before.before.if2.false, sorts_none, sym c.before.before.before.is-unset.ensures ∙ not-false _ c.before.before.if3.false, sym c.before.may-settle.ensures ∙ not-true _ c.if4.true), tt)
+returns-4 : tie.Need-returns-then-not-may_settle
+returns-4 c = (rw (c.if-w-ne0.false, c.if-w-ne0-2.false, sorts_none, sym c.is_unset.ensures ∙ not-false _ c.if-not-is_unset.false-raw, sym c.may_settle.ensures ∙ not-true _ c.if-not-may_settle.true-raw), tt)
 
 ruled-requires : tie.Need-ruled-requires
-ruled-requires c κs = (c.before.before.before.before.before.before.before.before.requires.0, sym c.before.before.before.is-unset.ensures ∙ not-false _ c.before.before.if3.false)
+ruled-requires c κs = (c.requires.0, sym c.is_unset.ensures ∙ not-false _ c.if-not-is_unset.false-raw)
 
-returns-5 : tie.Need-returns-5
+returns-5 : tie.Need-returns
 returns-5 c =
-    let at-if2 = c.before.before.before.before.before in
-    (rw (at-if2.before.before.if1.false, at-if2.if2.false, sorts_none, sym c.before.before.before.before.is-unset.ensures ∙ not-false _ c.before.before.before.if3.false, sym c.before.before.may-settle.ensures ∙ not-false _ c.before.if4.false) (ap some c.ruled.ensures.0), c.ruled.ensures.1)
+    (rw (c.if-w-ne0.false, c.if-w-ne0-2.false, sorts_none, sym c.is_unset.ensures ∙ not-false _ c.if-not-is_unset.false-raw, sym c.may_settle.ensures ∙ not-false _ c.if-not-may_settle.false-raw) (ap some c.ruled.ensures.0), c.ruled.ensures.1)
 
 pub settle_spec : {M : Type 1} → statement M
 settle_spec =

@@ -16,23 +16,23 @@ over h e = omega arith
 none : {n : ℕ} → n ≤ 0 → n ≡ 0
 none h = omega arith
 
-returns : tie.Need-returns
-returns c = (λ v n. rw (open_yes c.before.before.args.w.gate c.if1.true), tt)
+returns : tie.Need-returns-then-w-ne0
+returns c = (λ v n. rw (open_yes c.args.w.gate c.if-w-ne0.true), tt)
 
-returns-2 : tie.Need-returns-2
-returns-2 c = (λ v n. rw (c.before.before.if1.false, empty_not _ _ (over c.if2.true)), tt)
+returns-2 : tie.Need-returns-then-w-gt0
+returns-2 c = (λ v n. rw (c.if-w-ne0.false, empty_not _ _ (over c.if-w-gt0.true)), tt)
 
-returns-3 : tie.Need-returns-3
-returns-3 c = (λ v n. rw (c.before.before.before.before.if1.false, none c.before.before.if2.false, sorts_none, sym c.before.is-unset.ensures ∙ not-true _ c.if3.true), tt)
+returns-3 : tie.Need-returns-then-not-is_unset
+returns-3 c = (λ v n. rw (c.if-w-ne0.false, none c.if-w-gt0.false, sorts_none, sym c.is_unset.ensures ∙ not-true _ c.if-not-is_unset.true-raw), tt)
 
-returns-4 : tie.Need-returns-4
-returns-4 c = (λ v n. rw (c.before.before.before.before.before.before.if1.false, none c.before.before.before.before.if2.false, sorts_none, sym c.before.before.before.is-unset.ensures ∙ not-false _ c.before.before.if3.false, closed_not _ (over c.if4.true)), tt)
+returns-4 : tie.Need-returns-then-w-gt0-2
+returns-4 c = (λ v n. rw (c.if-w-ne0.false, none c.if-w-gt0.false, sorts_none, sym c.is_unset.ensures ∙ not-false _ c.if-not-is_unset.false-raw, closed_not _ (over c.if-w-gt0-2.true)), tt)
 
 ruled-requires : tie.Need-ruled-requires
-ruled-requires c κs = (c.before.before.before.before.before.before.before.before.requires, sym c.before.before.before.is-unset.ensures ∙ not-false _ c.before.before.if3.false)
+ruled-requires c κs = (c.requires, sym c.is_unset.ensures ∙ not-false _ c.if-not-is_unset.false-raw)
 
-returns-5 : tie.Need-returns-5
-returns-5 c = (λ v n. rw (c.before.before.before.before.before.before.before.if1.false, none c.before.before.before.before.before.if2.false, sorts_none, sym c.before.before.before.before.is-unset.ensures ∙ not-false _ c.before.before.before.if3.false, none c.before.if4.false) (ap some c.ruled.ensures.0), c.ruled.ensures.1)
+returns-5 : tie.Need-returns
+returns-5 c = (λ v n. rw (c.if-w-ne0.false, none c.if-w-gt0.false, sorts_none, sym c.is_unset.ensures ∙ not-false _ c.if-not-is_unset.false-raw, none c.if-w-gt0-2.false) (ap some c.ruled.ensures.0), c.ruled.ensures.1)
 
 pub timer_spec : {M : Type 1} → statement M
 timer_spec = tie.close (tie.spec returns returns-2 (λ c κs. search rules) returns-3 returns-4 ruled-requires returns-5)

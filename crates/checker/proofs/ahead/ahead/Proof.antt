@@ -5,17 +5,17 @@ use Rattle.checker.proofs.Bits.{below_40}
 use Rattle.checker.proofs.ahead.ahead.Statement.{statement}
 use Rattle.checker.proofs.ahead.ahead.Tie as tie
 
-mul-k : tie.Need-overflow-mul-k
-mul-k c = record { fits = omega (arith, below_40 _ _ c.before.before.before.before.before.requires.0.few_held c.before.before.before.before.before.requires.0.sorts_low) }
+mul-k : tie.Need-overflow_mul-k
+mul-k c = record { fits = omega (arith, below_40 _ _ c.requires.0.few_held c.requires.0.sorts_low) }
 
-add-k-2 : tie.Need-overflow-add-k-2
-add-k-2 c = record { fits = omega (arith, below_40 _ _ c.before.before.before.before.before.requires.0.few_held c.before.before.before.before.before.requires.0.sorts_low) }
+add-k-2 : tie.Need-overflow_add-k-then-comparison_ahead
+add-k-2 c = record { fits = omega (arith, below_40 _ _ c.requires.0.few_held c.requires.0.sorts_low) }
 
-returns : tie.Need-returns
-returns c = c.before.before.before.comparison-ahead.ensures c.before.before.if1.true
+returns : tie.Need-returns-then-comparison_ahead
+returns c = c.comparison_ahead.ensures c.if-comparison_ahead.true
 
-returns-2 : tie.Need-returns-2
-returns-2 c = c.before.operation-ahead.ensures c.if2.true
+returns-2 : tie.Need-returns-then-operation_ahead
+returns-2 c = c.operation_ahead.ensures c.if-operation_ahead.true
 
 pub ahead_spec : {M : Type 1} → statement M
 ahead_spec =

@@ -11,16 +11,16 @@ use Rattle.checker.proofs.Stretching.{previous_leads, current_leads}
 use Rattle.checker.proofs.ahead.comparison_ahead.Statement.{statement}
 use Rattle.checker.proofs.ahead.comparison_ahead.Tie as tie
 
-returns-10 : tie.Need-returns-10
+returns-10 : tie.Need-returns-then-byte-eq3
 returns-10 c =
-    λ e. previous_leads c.before.before.before.before.before.before.before.before.before.before.before.before.before.before.before.before.before.before.before.before.args.code.now c.before.before.before.before.before.before.before.before.before.before.before.before.before.before.before.before.before.before.before.before.args.at c.before.before.before.before.before.before.before.before.before.before.before.before.before.before.before.before.before.before.before.before.args.w c.before.before.before.before.before.before.before.before.before.before.before.before.before.before.before.before.before.before.before.before.requires.0 c.before.before.before.before.before.before.before.before.before.before.before.before.before.before.before.if3.false c.before.before.before.before.before.before.before.before.before.before.before.before.before.if4.false c.before.before.before.before.before.before.before.before.before.before.before.if5.false (omega (arith, c.before.before.before.before.before.before.before.before.before.before.if6.false)) (omega (arith, c.before.before.before.before.before.before.before.before.if7.false)) c.before.before.before.before.before.before.if8.false (omega (arith, c.before.before.before.before.if9.false))
-    c.before.if10.true (omega (arith, ltb-true c.before.before.wide.result c.before.before.before.before.before.before.before.before.before.before.before.before.before.before.before.before.before.before.before.before.args.w.names e, c.before.before.wide.ensures))
+    λ e. previous_leads c.args.code.now c.args.at c.args.w c.requires.0 c.if-code-at.false c.if-code-at-ne1.false c.if-op-lt10.false (omega (arith, c.if-op-gt15.false)) (omega (arith, c.if-code-at-gt127.false)) c.if-w-ne0.false (omega (arith, c.if-w.false))
+    c.if-byte-eq3.true (omega (arith, ltb-true c.wide-id.result c.args.w.names e, c.wide-id.ensures))
 
-returns-11 : tie.Need-returns-11
+returns-11 : tie.Need-returns
 returns-11 c =
-    let is : get_or c.before.before.before.before.before.before.before.before.before.before.before.before.before.before.before.before.before.before.before.before.args.code.now c.before.before.before.before.before.before.before.before.before.before.before.before.before.before.before.before.before.before.before.before.args.at 0 ≡ 2 = omega (arith, c.before.before.before.before.before.before.before.before.before.before.before.before.before.before.before.before.before.if1.false, c.before.before.before.before.before.before.before.before.before.before.before.before.before.before.before.before.if2.false, c.before.if10.false) in
-    λ e. let known : get_or (flags_of c.before.before.before.before.before.before.before.before.before.before.before.before.before.before.before.before.before.before.before.before.args.w.names c.before.before.before.before.before.before.before.before.before.before.before.before.before.before.before.before.before.before.before.before.args.w.known) (get_or c.before.before.before.before.before.before.before.before.before.before.before.before.before.before.before.before.before.before.before.before.args.code.now (c.before.before.before.before.before.before.before.before.before.before.before.before.before.before.before.before.before.before.before.before.args.at + 1) 0) false ≡ true = rw c.before.before.wide.ensures at (sym c.is_known.ensures ∙ e) in
-    current_leads c.before.before.before.before.before.before.before.before.before.before.before.before.before.before.before.before.before.before.before.before.args.code.now c.before.before.before.before.before.before.before.before.before.before.before.before.before.before.before.before.before.before.before.before.args.at c.before.before.before.before.before.before.before.before.before.before.before.before.before.before.before.before.before.before.before.before.args.w c.before.before.before.before.before.before.before.before.before.before.before.before.before.before.before.before.before.before.before.before.requires.0 c.before.before.before.before.before.before.before.before.before.before.before.before.before.before.before.if3.false c.before.before.before.before.before.before.before.before.before.before.before.before.before.if4.false c.before.before.before.before.before.before.before.before.before.before.before.if5.false (omega (arith, c.before.before.before.before.before.before.before.before.before.before.if6.false)) (omega (arith, c.before.before.before.before.before.before.before.before.if7.false)) c.before.before.before.before.before.before.if8.false (omega (arith, c.before.before.before.before.if9.false)) is known
+    let is : get_or c.args.code.now c.args.at 0 ≡ 2 = omega (arith, c.if-byte-lt2.false, c.if-byte-gt3.false, c.if-byte-eq3.false) in
+    λ e. let known : get_or (flags_of c.args.w.names c.args.w.known) (get_or c.args.code.now (c.args.at + 1) 0) false ≡ true = rw c.wide-id.ensures at (sym c.is_known.ensures ∙ e) in
+    current_leads c.args.code.now c.args.at c.args.w c.requires.0 c.if-code-at.false c.if-code-at-ne1.false c.if-op-lt10.false (omega (arith, c.if-op-gt15.false)) (omega (arith, c.if-code-at-gt127.false)) c.if-w-ne0.false (omega (arith, c.if-w.false)) is known
 
 pub comparison_ahead_spec : {M : Type 1} → statement M
 comparison_ahead_spec =

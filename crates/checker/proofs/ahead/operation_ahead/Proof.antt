@@ -7,10 +7,9 @@ use Rattle.checker.proofs.Stretching.{operation_leads}
 use Rattle.checker.proofs.ahead.operation_ahead.Statement.{statement}
 use Rattle.checker.proofs.ahead.operation_ahead.Tie as tie
 
-returns-8 : tie.Need-returns-8
+returns-8 : tie.Need-returns
 returns-8 c =
-    let start = c.before.before.before.before.before.before.before.before.before.before.before.before.before in
-    λ e. operation_leads start.args.code.now start.args.at start.args.w start.requires.0 c.before.before.before.before.before.before.before.before.before.before.before.if1.false c.before.before.before.before.before.before.before.before.before.before.if2.false c.before.before.before.before.before.before.before.before.if3.false (omega (arith, c.before.before.before.before.before.before.before.if4.false)) (omega (arith, c.before.before.before.before.before.if5.false)) (omega (arith, c.before.before.before.if6.false)) (omega (arith, c.before.if7.false)) (eqb-true _ _ e)
+    λ e. operation_leads c.args.code.now c.args.at c.args.w c.requires.0 c.if-code-at-ne1.false c.if-code-at.false c.if-op-lt4.false (omega (arith, c.if-op-gt8.false)) (omega (arith, c.if-code-at-gt127.false)) (omega (arith, c.if-w-eq0.false)) (omega (arith, c.if-w.false)) (eqb-true _ _ e)
 
 pub operation_ahead_spec : {M : Type 1} → statement M
 operation_ahead_spec =

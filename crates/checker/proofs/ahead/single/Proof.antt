@@ -10,22 +10,22 @@ use Rattle.checker.proofs.Stretching.{single_leads}
 use Rattle.checker.proofs.ahead.single.Statement.{statement}
 use Rattle.checker.proofs.ahead.single.Tie as tie
 
-returns : tie.Need-returns
-returns c = judges_malformed c.before.before.before.before.args.code.now c.before.before.before.before.args.at (known_of c.before.before.before.before.args.w) c.before.before.before.before.requires.1 (sym c.before.before.read.ensures.0 ∙ ap single_read c.enum_told.given.1)
+returns : tie.Need-returns-in_default
+returns c = judges_malformed c.args.code.now c.args.at (known_of c.args.w) c.requires.1 (sym c.read.ensures.0 ∙ ap single_read c.in_default.is)
 
 advance-requires : tie.Need-advance-requires
-advance-requires c κs = (c.before.before.before.before.before.requires.0, (subst (SingleWithin (length c.before.before.before.before.before.args.code.now) c.before.before.before.before.before.args.at) c.before.byte.given.1 c.before.before.before.read.ensures.1).operand)
+advance-requires c κs = (c.requires.0, (subst (SingleWithin (length c.args.code.now) c.args.at) c.in-Instruction.is c.read.ensures.1).operand)
 
-returns-2 : tie.Need-returns-2
+returns-2 : tie.Need-returns-in_default-advance
 returns-2 c =
-    judges_broken c.before.before.before.before.before.before.before.before.args.code.now c.before.before.before.before.before.before.before.before.args.at (known_of c.before.before.before.before.before.before.before.before.args.w) c.before.before.before.before.before.before.before.before.requires.1 (instruction_of c.before.before.before.before.byte.given.0.0 c.before.before.before.before.byte.given.0.1.0) c.before.before.before.before.byte.given.0.1.1.0 (sym c.before.before.before.before.before.before.read.ensures.0 ∙ ap single_read c.before.before.before.before.byte.given.1)
-    (sym c.before.before.advance.ensures.0 ∙ ap advanced_known c.enum-told2.given.1)
+    judges_broken c.args.code.now c.args.at (known_of c.args.w) c.requires.1 (instruction_of c.in-Instruction.byte c.in-Instruction.n) c.in-Instruction.next (sym c.read.ensures.0 ∙ ap single_read c.in-Instruction.is)
+    (sym c.advance.ensures.0 ∙ ap advanced_known c.in_default-advance.is)
 
-returns-3 : tie.Need-returns-3
+returns-3 : tie.Need-returns
 returns-3 c =
-    single_leads c.before.before.before.before.before.before.before.before.before.args.code.now c.before.before.before.before.before.before.before.before.before.args.at c.before.before.before.before.before.before.before.before.before.args.w c.before.before.before.before.before.byte.given.0.1.1.0 c.before.k.given.0.0 (instruction_of c.before.before.before.before.before.byte.given.0.0 c.before.before.before.before.before.byte.given.0.1.0) (sym c.before.before.before.before.before.before.before.read.ensures.0 ∙ ap single_read c.before.before.before.before.before.byte.given.1)
-    (sym c.before.before.before.advance.ensures.0 ∙ ap advanced_known c.before.k.given.1) (subst (SingleWithin (length c.before.before.before.before.before.before.before.before.before.args.code.now) c.before.before.before.before.before.before.before.before.before.args.at) c.before.before.before.before.before.byte.given.1 c.before.before.before.before.before.before.before.read.ensures.1).inside
-    (subst SmallAfter c.before.k.given.1 c.before.before.before.advance.ensures.1)
+    single_leads c.args.code.now c.args.at c.args.w c.in-Instruction.next c.in-Kept.k (instruction_of c.in-Instruction.byte c.in-Instruction.n) (sym c.read.ensures.0 ∙ ap single_read c.in-Instruction.is)
+    (sym c.advance.ensures.0 ∙ ap advanced_known c.in-Kept.is) (subst (SingleWithin (length c.args.code.now) c.args.at) c.in-Instruction.is c.read.ensures.1).inside
+    (subst SmallAfter c.in-Kept.is c.advance.ensures.1)
 
 pub single_spec : {M : Type 1} → statement M
 single_spec =

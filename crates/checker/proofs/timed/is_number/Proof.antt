@@ -9,15 +9,15 @@ use Rattle.arith.specs.Values.{compares}
 use Rattle.checker.proofs.timed.is_number.Statement.{statement}
 use Rattle.checker.proofs.timed.is_number.Tie as tie
 
-returns : tie.Need-returns
+returns : tie.Need-returns-then-list-id
 unfolding compares
-returns c = rw (get_or-eq_default c.before.before.args.list.now (pos 0) c.before.if1.true) (rw (to_z-of_z c.before.before.ranges.z) at c.is-equal.ensures)
+returns c = rw (get_or-eq_default c.args.list.now (pos 0) c.if-list-id.true) (rw (to_z-of_z c.ranges.z) at c.is_equal.ensures)
 
-returns-2 : tie.Need-returns-2
+returns-2 : tie.Need-returns
 unfolding compares
 returns-2 c =
-    let f : SFits w32 (get_or c.before.before.before.args.list.now c.before.before.before.args.id (pos 0)) = search rules in
-    rw (to_z-of_z f, to_z-of_z c.before.before.before.ranges.z) at c.is-equal2.ensures
+    let f : SFits w32 (get_or c.args.list.now c.args.id (pos 0)) = search rules in
+    rw (to_z-of_z f, to_z-of_z c.ranges.z) at c.is_equal-2.ensures
 
 pub is_number_spec : {M : Type 1} → statement M
 is_number_spec =

@@ -7,19 +7,19 @@ use Rattle.checker.proofs.Timing.{last_timer}
 use Rattle.checker.proofs.timed.timer.Statement.{statement}
 use Rattle.checker.proofs.timed.timer.Tie as tie
 
-returns : tie.Need-returns
-returns c = λ ns before s b at k. rw (sym (c.before.suits.ensures ns before s b) ∙ not-true _ c.if1.true)
+returns : tie.Need-returns-then-not-suits
+returns c = λ ns before s b at k. rw (sym (c.suits.ensures ns before s b) ∙ not-true _ c.if-not-suits.true-raw)
 
-returns-2 : tie.Need-returns-2
+returns-2 : tie.Need-returns-in_default
 returns-2 c =
-    λ ns before s b at k. rw (sym (c.before.before.before.before.suits.ensures ns before s b) ∙ not-false _ c.before.before.before.if1.false, sym (c.before.before.timer.ensures.0 c.before.before.before.before.before.args.v c.before.before.before.before.before.args.n) ∙ ap advanced_known c.enum_told.given.1)
+    λ ns before s b at k. rw (sym (c.suits.ensures ns before s b) ∙ not-false _ c.if-not-suits.false-raw, sym (c.timer.ensures.0 c.args.v c.args.n) ∙ ap advanced_known c.in_default.is)
 
-returns-3 : tie.Need-returns-3
+returns-3 : tie.Need-returns
 returns-3 c = (
-  λ ns before s b. sym (c.before.before.before.before.before.suits.ensures ns before s b) ∙ not-false _ c.before.before.before.before.if1.false,
-  sym (c.before.before.before.timer.ensures.0 c.before.before.before.before.before.before.args.v c.before.before.before.before.before.before.args.n) ∙ ap advanced_known c.before.k.given.1,
-  subst SmallAfter c.before.k.given.1 c.before.before.before.timer.ensures.1,
-  last_timer c.before.before.before.before.before.before.args.t c.before.before.before.before.before.before.args.v c.before.before.before.before.before.before.args.n,
+  λ ns before s b. sym (c.suits.ensures ns before s b) ∙ not-false _ c.if-not-suits.false-raw,
+  sym (c.timer.ensures.0 c.args.v c.args.n) ∙ ap advanced_known c.in-Kept.is,
+  subst SmallAfter c.in-Kept.is c.timer.ensures.1,
+  last_timer c.args.t c.args.v c.args.n,
   refl,
 )
 

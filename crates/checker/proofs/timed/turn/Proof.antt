@@ -9,30 +9,30 @@ use Rattle.checker.proofs.timed.turn.Statement.{statement}
 use Rattle.checker.proofs.timed.turn.Tie as tie
 
 plain-requires : tie.Need-plain-requires
-plain-requires c κs = (c.before.before.before.before.before.requires.0, (subst (FetchedWithin (length c.before.before.before.before.before.args.code.now) c.before.before.before.before.before.args.at) c.before.byte.given.1 c.before.before.before.fetch.ensures.1).operand)
+plain-requires c κs = (c.requires.0, (subst (FetchedWithin (length c.args.code.now) c.args.at) c.in-Instruction.is c.fetch.ensures.1).operand)
 
 timer-requires : tie.Need-timer-requires
 timer-requires c κs =
-    let b = subst (FetchedWithin (length c.before.before.before.before.before.args.code.now) c.before.before.before.before.before.args.at) c.before.t.given.1 c.before.before.before.fetch.ensures.1 in
-    (c.before.before.before.before.before.requires.0, b.id, b.watched)
+    let b = subst (FetchedWithin (length c.args.code.now) c.args.at) c.in-Timer.is c.fetch.ensures.1 in
+    (c.requires.0, b.id, b.watched)
 
-returns : tie.Need-returns
+returns : tie.Need-returns-in-Instruction
 returns c =
-    let b = subst (FetchedWithin (length c.before.before.before.before.before.before.args.code.now) c.before.before.before.before.before.before.args.at) c.before.before.byte.given.1 c.before.before.before.before.fetch.ensures.1 in
-    let e = sym c.before.before.before.before.fetch.ensures.0 ∙ (ap fetched_read c.before.before.byte.given.1 ∙ ap (λ o. decoded o c.before.before.byte.given.0.1.1.0) b.listed) in
-    plain_turns c.before.before.before.before.before.before.args.code.now c.before.before.before.before.before.before.args.at c.before.before.before.before.before.before.args.w c.before.before.before.before.before.before.args.last c.before.before.before.before.before.before.args.low.now c.before.before.before.before.before.before.args.high.now c.before.before.before.before.before.before.args.start.now c.before.before.before.before.before.before.requires.1
-    c.before.before.byte.given.0.1.1.0 b.behind b.inside _ _ b.instruction b.listed e c.plain.result c.plain.ensures
+    let b = subst (FetchedWithin (length c.args.code.now) c.args.at) c.in-Instruction.is c.fetch.ensures.1 in
+    let e = sym c.fetch.ensures.0 ∙ (ap fetched_read c.in-Instruction.is ∙ ap (λ o. decoded o c.in-Instruction.next) b.listed) in
+    plain_turns c.args.code.now c.args.at c.args.w c.args.last c.args.low.now c.args.high.now c.args.start.now c.requires.1
+    c.in-Instruction.next b.behind b.inside _ _ b.instruction b.listed e c.plain.result c.plain.ensures
 
-returns-2 : tie.Need-returns-2
+returns-2 : tie.Need-returns-in-Timer
 returns-2 c =
-    let b = subst (FetchedWithin (length c.before.before.before.before.before.before.args.code.now) c.before.before.before.before.before.before.args.at) c.before.before.t.given.1 c.before.before.before.before.fetch.ensures.1 in
-    timer_turns c.before.before.before.before.before.before.args.code.now c.before.before.before.before.before.before.args.at c.before.before.before.before.before.before.args.w c.before.before.before.before.before.before.args.last c.before.before.before.before.before.before.args.low.now c.before.before.before.before.before.before.args.high.now c.before.before.before.before.before.before.args.start.now c.before.before.before.before.before.before.requires.1
-    c.before.before.t.given.0.1.1.1.0 b.behind b.inside _ _ _ (sym c.before.before.before.before.fetch.ensures.0 ∙ ap fetched_read c.before.before.t.given.1) c.timer.result c.timer.ensures
+    let b = subst (FetchedWithin (length c.args.code.now) c.args.at) c.in-Timer.is c.fetch.ensures.1 in
+    timer_turns c.args.code.now c.args.at c.args.w c.args.last c.args.low.now c.args.high.now c.args.start.now c.requires.1
+    c.in-Timer.next b.behind b.inside _ _ _ (sym c.fetch.ensures.0 ∙ ap fetched_read c.in-Timer.is) c.timer.result c.timer.ensures
 
-returns-3 : tie.Need-returns-3
+returns-3 : tie.Need-returns-in-Malformed
 returns-3 c =
-    nothing_turns c.before.before.before.before.args.code.now c.before.before.before.before.args.at c.before.before.before.before.args.w c.before.before.before.before.args.last c.before.before.before.before.args.low.now c.before.before.before.before.args.high.now c.before.before.before.before.args.start.now c.before.before.before.before.requires.1
-    (sym c.before.before.fetch.ensures.0 ∙ ap fetched_read c.enum_told.given.1)
+    nothing_turns c.args.code.now c.args.at c.args.w c.args.last c.args.low.now c.args.high.now c.args.start.now c.requires.1
+    (sym c.fetch.ensures.0 ∙ ap fetched_read c.in-Malformed.is)
 
 pub turn_spec : {M : Type 1} → statement M
 turn_spec =

@@ -15,31 +15,31 @@ use borrow.Author.Rules.{rules}
 use Rattle.machine.proofs.dispatch.comparison_at.Statement.{statement}
 use Rattle.machine.proofs.dispatch.comparison_at.Tie as tie
 
-returns-12 : tie.Need-returns-12
+returns-12 : tie.Need-returns-then-byte-eq3
 returns-12 c =
-    let a = c.before.before.before.before.before.before.before.before.before.before.before.before.before.before.before.before.before.before.before.before.before.before.before.args in
+    let a = c.args in
     let code = a.code.now in
-    let i = c.before.before.before.before.before.before.before.before.before.before.wide.ensures in
-    let n = c.before.before.before.before.before.before.wide2.ensures in
-    let fx : SFits w32 (get_or a.prev.now c.before.before.before.before.before.before.before.before.before.before.wide.result (pos 0)) = search rules in
-    let fy : SFits w32 c.before.unzigzag.result = search rules in
+    let i = c.wide-id.ensures in
+    let n = c.wide-n.ensures in
+    let fx : SFits w32 (get_or a.prev.now c.wide-id.result (pos 0)) = search rules in
+    let fy : SFits w32 c.unzigzag.result = search rules in
     let f : c.truth.result ≡ truth_of (get_or code (a.at + 4) 0) (value_at a.prev.now (get_or code (a.at + 1) 0)) (unzigzag (get_or code (a.at + 3) 0)) =
-    rw (to_z-of_z fx, to_z-of_z fy, c.before.unzigzag.ensures, i, n) at c.truth.ensures in
-    previous_compared code a.prev.now a.cur.now a.at a.held a.left c.truth.result c.before.before.before.before.before.before.before.before.before.before.before.before.before.before.before.before.before.before.if3.false c.before.before.before.before.before.before.before.before.before.before.before.before.before.before.before.before.if4.false c.before.before.before.before.before.before.before.before.before.before.before.before.before.before.if5.false (omega (arith, c.before.before.before.before.before.before.before.before.before.before.before.before.before.if6.false)) c.before.before.before.before.before.before.before.before.before.before.before.before.if7.false
-    (omega (arith, c.before.before.before.before.before.before.before.before.before.if8.false, i)) (omega (arith, c.before.before.before.before.before.before.before.before.if9.false, i)) (omega (arith, c.before.before.before.before.before.if10.false, n)) (omega (arith, c.before.before.before.before.if11.false)) c.before.before.before.if12.true f
+    rw (to_z-of_z fx, to_z-of_z fy, c.unzigzag.ensures, i, n) at c.truth.ensures in
+    previous_compared code a.prev.now a.cur.now a.at a.held a.left c.truth.result c.if-code-at.false c.if-code-at-ne1.false c.if-op-lt10.false (omega (arith, c.if-op-gt15.false)) c.if-left-lt3.false
+    (omega (arith, c.if-id-gt127.false, i)) (omega (arith, c.if-prev-i.false, i)) (omega (arith, c.if-n-gt127.false, n)) (omega (arith, c.if-held-ge-STACK_LIMIT.false)) c.if-byte-eq3.true f
 
-returns-13 : tie.Need-returns-13
+returns-13 : tie.Need-returns
 returns-13 c =
-    let a = c.before.before.before.before.before.before.before.before.before.before.before.before.before.before.before.before.before.before.before.before.before.before.before.args in
+    let a = c.args in
     let code = a.code.now in
-    let i = c.before.before.before.before.before.before.before.before.before.before.wide.ensures in
-    let n = c.before.before.before.before.before.before.wide2.ensures in
-    let fx : SFits w32 (get_or a.cur.now c.before.before.before.before.before.before.before.before.before.before.wide.result (pos 0)) = search rules in
-    let fy : SFits w32 c.before.unzigzag2.result = search rules in
-    let f : c.truth2.result ≡ truth_of (get_or code (a.at + 4) 0) (value_at a.cur.now (get_or code (a.at + 1) 0)) (unzigzag (get_or code (a.at + 3) 0)) =
-    rw (to_z-of_z fx, to_z-of_z fy, c.before.unzigzag2.ensures, i, n) at c.truth2.ensures in
-    current_compared code a.prev.now a.cur.now a.at a.held a.left c.truth2.result c.before.before.before.before.before.before.before.before.before.before.before.before.before.before.before.before.before.before.if3.false c.before.before.before.before.before.before.before.before.before.before.before.before.before.before.before.before.if4.false c.before.before.before.before.before.before.before.before.before.before.before.before.before.before.if5.false (omega (arith, c.before.before.before.before.before.before.before.before.before.before.before.before.before.if6.false)) c.before.before.before.before.before.before.before.before.before.before.before.before.if7.false
-    (omega (arith, c.before.before.before.before.before.before.before.before.before.if8.false, i)) (omega (arith, c.before.before.before.before.before.before.before.before.if9.false, i)) (omega (arith, c.before.before.before.before.before.if10.false, n)) (omega (arith, c.before.before.before.before.if11.false)) (omega (arith, c.before.before.before.before.before.before.before.before.before.before.before.before.before.before.before.before.before.before.before.before.if1.false, c.before.before.before.before.before.before.before.before.before.before.before.before.before.before.before.before.before.before.before.if2.false, c.before.before.before.if12.false)) f
+    let i = c.wide-id.ensures in
+    let n = c.wide-n.ensures in
+    let fx : SFits w32 (get_or a.cur.now c.wide-id.result (pos 0)) = search rules in
+    let fy : SFits w32 c.unzigzag-2.result = search rules in
+    let f : c.truth-2.result ≡ truth_of (get_or code (a.at + 4) 0) (value_at a.cur.now (get_or code (a.at + 1) 0)) (unzigzag (get_or code (a.at + 3) 0)) =
+    rw (to_z-of_z fx, to_z-of_z fy, c.unzigzag-2.ensures, i, n) at c.truth-2.ensures in
+    current_compared code a.prev.now a.cur.now a.at a.held a.left c.truth-2.result c.if-code-at.false c.if-code-at-ne1.false c.if-op-lt10.false (omega (arith, c.if-op-gt15.false)) c.if-left-lt3.false
+    (omega (arith, c.if-id-gt127.false, i)) (omega (arith, c.if-prev-i.false, i)) (omega (arith, c.if-n-gt127.false, n)) (omega (arith, c.if-held-ge-STACK_LIMIT.false)) (omega (arith, c.if-byte-lt2.false, c.if-byte-gt3.false, c.if-byte-eq3.false)) f
 
 pub comparison_at_spec : {M : Type 1} → statement M
 comparison_at_spec =

@@ -13,26 +13,26 @@ use borrow.Author.Rules.{rules}
 use Rattle.machine.proofs.dispatch.dispatch.Statement.{statement}
 use Rattle.machine.proofs.dispatch.dispatch.Tie as tie
 
-comparison-at-requires : tie.Need-comparison-at-requires
-comparison-at-requires c κs = (c.before.before.requires.0.0, c.before.before.requires.0.1, c.before.before.requires.1.current ∙ sym c.before.before.requires.1.previous)
+comparison-at-requires : tie.Need-comparison_at-requires
+comparison-at-requires c κs = (c.requires.0.0, c.requires.0.1, c.requires.1.current ∙ sym c.requires.1.previous)
 
-returns : tie.Need-returns
+returns : tie.Need-returns-in_default
 returns c =
-    let a = c.before.before.before.before.before.before.before.before.before.before.args in
-    with_more a.code.now (RangedIn a.low.now a.high.now) a.prev.now a.at (registers a.held a.picked false) a.vals.now a.cur.now _ _ a.left c.before.before.before.before.before.before.before.before.before.before.requires.0.3 c.before.before.dispatch-one.result c.before.before.dispatch-one.ensures
+    let a = c.args in
+    with_more a.code.now (RangedIn a.low.now a.high.now) a.prev.now a.at (registers a.held a.picked false) a.vals.now a.cur.now _ _ a.left c.requires.0.3 c.dispatch_one.result c.dispatch_one.ensures
 
-slice-set-from-vals : tie.Need-slice-set-from-vals
+slice-set-from-vals : tie.Need-bounds-vals-held
 slice-set-from-vals c =
-    let a = c.before.before.before.before.before.before.before.args in
-    let s = subst (λ x. LookaheadBy a.code.now a.prev.now a.cur.now a.at a.held a.left x) c.before.before.t.given.1 c.before.before.before.before.comparison-at.ensures in
-    omega (arith, s.room, c.before.before.before.before.before.before.before.requires.0.2)
+    let a = c.args in
+    let s = subst (λ x. LookaheadBy a.code.now a.prev.now a.cur.now a.at a.held a.left x) c.in-Truth.is c.comparison_at.ensures in
+    omega (arith, s.room, c.requires.0.2)
 
-returns-2 : tie.Need-returns-2
+returns-2 : tie.Need-returns
 returns-2 c =
-    let a = c.before.before.before.before.before.before.before.args in
-    let s = subst (λ x. LookaheadBy a.code.now a.prev.now a.cur.now a.at a.held a.left x) c.before.before.t.given.1 c.before.before.before.before.comparison-at.ensures in
-    let fv : SFits w32 c.bit-of.result = search rules in
-    rw (to_z-of_z fv) (comparison_done a.code.now (RangedIn a.low.now a.high.now) a.prev.now a.at a.held a.picked a.vals.now a.cur.now a.left _ s (λ ns q. names_length ns.ranges a.low.now a.high.now q ∙ sym c.before.before.before.before.before.before.before.requires.1.previous) c.before.before.before.before.before.before.before.requires.0.2 c.bit-of.result c.bit-of.ensures)
+    let a = c.args in
+    let s = subst (λ x. LookaheadBy a.code.now a.prev.now a.cur.now a.at a.held a.left x) c.in-Truth.is c.comparison_at.ensures in
+    let fv : SFits w32 c.bit_of.result = search rules in
+    rw (to_z-of_z fv) (comparison_done a.code.now (RangedIn a.low.now a.high.now) a.prev.now a.at a.held a.picked a.vals.now a.cur.now a.left _ s (λ ns q. names_length ns.ranges a.low.now a.high.now q ∙ sym c.requires.1.previous) c.requires.0.2 c.bit_of.result c.bit_of.ensures)
 
 pub dispatch_spec : {M : Type 1} → statement M
 dispatch_spec =

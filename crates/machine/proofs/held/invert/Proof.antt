@@ -15,20 +15,20 @@ use Rattle.arith.specs.Values.{ok}
 use Rattle.machine.proofs.held.invert.Statement.{statement}
 use Rattle.machine.proofs.held.invert.Tie as tie
 
-returns : tie.Need-returns
-returns c = (λ ns s t. pop_none c.before.args.vals.now c.before.args.m.held _ c.if1.true, search rules)
+returns : tie.Need-returns-then-n-eq0
+returns c = (λ ns s t. pop_none c.args.vals.now c.args.m.held _ c.if-n-eq0.true, search rules)
 
-returns-2 : tie.Need-returns-2
+returns-2 : tie.Need-returns
 returns-2 c =
-    let a = c.before.before.before.before.args in
-    let p = c.before.before.before.before.requires in
+    let a = c.args in
+    let p = c.requires in
     let l = a.vals.now in
     let n = a.m.held in
-    let fa : SFits w32 (get_or l (n - 1) (pos 0)) = record { sfits = c.before.before.is-yes-arg.given } in
-    let v = c.bit-of.result in
-    let e : v ≡ bit (not (yes (get_or l (n - 1) (pos 0)))) = c.bit-of.ensures ∙ ap (λ x. bit (not x)) (rw (to_z-of_z fa) at c.before.is-yes.ensures) in
+    let fa : SFits w32 (get_or l (n - 1) (pos 0)) = record { sfits = c.is_yes-arg-1.given } in
+    let v = c.bit_of-v.result in
+    let e : v ≡ bit (not (yes (get_or l (n - 1) (pos 0)))) = c.bit_of-v.ensures ∙ ap (λ x. bit (not x)) (rw (to_z-of_z fa) at c.is_yes.ensures) in
     let fv : SFits w32 v = search rules in
-    (λ ns s t. rw (to_z-of_z fv) (one_put (λ x. ok (bit (not (yes x)))) l n a.m.picked t c.before.before.before.if1.false v (omega (arith, p.few, p.room)) (ap ok (sym e))), omega (arith, p.few))
+    (λ ns s t. rw (to_z-of_z fv) (one_put (λ x. ok (bit (not (yes x)))) l n a.m.picked t c.if-n-eq0.false v (omega (arith, p.few, p.room)) (ap ok (sym e))), omega (arith, p.few))
 
 pub invert_spec : {M : Type 1} → statement M
 invert_spec =

@@ -14,29 +14,29 @@ use Rattle.arith.specs.Values.{ok, refusal, negation}
 use Rattle.machine.proofs.held.negate.Statement.{statement}
 use Rattle.machine.proofs.held.negate.Tie as tie
 
-returns : tie.Need-returns
-returns c = (λ ns s t. pop_none c.before.args.vals.now c.before.args.m.held _ c.if1.true, search rules)
+returns : tie.Need-returns-then-n-eq0
+returns c = (λ ns s t. pop_none c.args.vals.now c.args.m.held _ c.if-n-eq0.true, search rules)
 
-returns-2 : tie.Need-returns-2
+returns-2 : tie.Need-returns-in_default
 returns-2 c =
-    let a = c.before.before.before.before.before.args in
+    let a = c.args in
     let l = a.vals.now in
     let n = a.m.held in
-    let fa : SFits w32 (get_or l (n - 1) (pos 0)) = record { sfits = c.before.before.before.negated-arg.given } in
-    let e : negation (get_or l (n - 1) (pos 0)) ≡ refusal 14 = rw (to_z-of_z fa) at (sym c.before.before.negated.ensures ∙ ap outcome_of c.enum_told.given.1) in
-    (λ ns s t. one_refused negation l n a.m.picked t c.before.before.before.before.if1.false 14 e, search rules)
+    let fa : SFits w32 (get_or l (n - 1) (pos 0)) = record { sfits = c.negated-arg-1.given } in
+    let e : negation (get_or l (n - 1) (pos 0)) ≡ refusal 14 = rw (to_z-of_z fa) at (sym c.negated-x.ensures ∙ ap outcome_of c.in_default.is) in
+    (λ ns s t. one_refused negation l n a.m.picked t c.if-n-eq0.false 14 e, search rules)
 
-returns-3 : tie.Need-returns-3
+returns-3 : tie.Need-returns
 returns-3 c =
-    let a = c.before.before.before.before.before.before.args in
-    let p = c.before.before.before.before.before.before.requires in
+    let a = c.args in
+    let p = c.requires in
     let l = a.vals.now in
     let n = a.m.held in
-    let fa : SFits w32 (get_or l (n - 1) (pos 0)) = record { sfits = c.before.before.before.before.negated-arg.given } in
-    let v = c.before.x.given.0.0 in
-    let e : negation (get_or l (n - 1) (pos 0)) ≡ ok v = rw (to_z-of_z fa) at (sym c.before.before.before.negated.ensures ∙ ap outcome_of c.before.x.given.1) in
+    let fa : SFits w32 (get_or l (n - 1) (pos 0)) = record { sfits = c.negated-arg-1.given } in
+    let v = c.in-Is.v in
+    let e : negation (get_or l (n - 1) (pos 0)) ≡ ok v = rw (to_z-of_z fa) at (sym c.negated-x.ensures ∙ ap outcome_of c.in-Is.is) in
     let fv : SFits w32 v = search rules in
-    let some = c.before.before.before.before.before.if1.false in
+    let some = c.if-n-eq0.false in
     (λ ns s t. rw (to_z-of_z fv) (one_put negation l n a.m.picked t some v (omega (arith, p.few, p.room)) e), omega (arith, p.few))
 
 pub negate_spec : {M : Type 1} → statement M

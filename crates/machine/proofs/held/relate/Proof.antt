@@ -15,21 +15,21 @@ use Rattle.arith.specs.Values.{ok}
 use Rattle.machine.proofs.held.relate.Statement.{statement}
 use Rattle.machine.proofs.held.relate.Tie as tie
 
-returns : tie.Need-returns
-returns c = (λ t. two_few (λ x y. ok (bit (truth_of c.before.args.code x y))) c.before.args.vals.now c.before.args.m.held c.before.args.m.picked t c.if1.true, search rules)
+returns : tie.Need-returns-then-n-lt2
+returns c = (λ t. two_few (λ x y. ok (bit (truth_of c.args.code x y))) c.args.vals.now c.args.m.held c.args.m.picked t c.if-n-lt2.true, search rules)
 
-returns-2 : tie.Need-returns-2
+returns-2 : tie.Need-returns
 returns-2 c =
-    let a = c.before.before.before.before.before.args in
-    let p = c.before.before.before.before.before.requires in
+    let a = c.args in
+    let p = c.requires in
     let l = a.vals.now in
     let n = a.m.held in
-    let fa : SFits w32 (get_or l (n - 2) (pos 0)) = record { sfits = c.before.before.before.truth-arg.given } in
-    let fb : SFits w32 (get_or l (n - 1) (pos 0)) = record { sfits = c.before.before.truth-arg2.given } in
-    let v = c.bit-of.result in
-    let e : v ≡ bit (truth_of a.code (get_or l (n - 2) (pos 0)) (get_or l (n - 1) (pos 0))) = c.bit-of.ensures ∙ ap bit (rw (to_z-of_z fa, to_z-of_z fb) at c.before.truth.ensures) in
+    let fa : SFits w32 (get_or l (n - 2) (pos 0)) = record { sfits = c.truth-arg-1.given } in
+    let fb : SFits w32 (get_or l (n - 1) (pos 0)) = record { sfits = c.truth-arg-2-1.given } in
+    let v = c.bit_of-v.result in
+    let e : v ≡ bit (truth_of a.code (get_or l (n - 2) (pos 0)) (get_or l (n - 1) (pos 0))) = c.bit_of-v.ensures ∙ ap bit (rw (to_z-of_z fa, to_z-of_z fb) at c.truth.ensures) in
     let fv : SFits w32 v = search rules in
-    let two = c.before.before.before.before.if1.false in
+    let two = c.if-n-lt2.false in
     (λ t. rw (to_z-of_z fv) (two_put (λ x y. ok (bit (truth_of a.code x y))) l n a.m.picked t v two (omega (arith, p.few, p.room)) (ap ok (sym e))), omega (arith, p.few))
 
 pub relate_spec : {M : Type 1} → statement M

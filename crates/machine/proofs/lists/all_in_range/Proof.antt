@@ -15,42 +15,36 @@ use Rattle.semantics.specs.Formula.{at}
 use Rattle.machine.proofs.lists.all_in_range.Statement.{statement}
 use Rattle.machine.proofs.lists.all_in_range.Tie as tie
 
-abbrev invariant_loop : tie.invariant_loop
+abbrev invariant_loop : tie.invariant-loop-i
 invariant_loop low high values i₀ i = Testing low high values i
 
-abbrev decreases_loop : tie.decreases_loop
+abbrev decreases_loop : tie.decreases-loop-i
 decreases_loop low high values i₀ i = length values - i
 
-returns : tie.Need-returns invariant_loop decreases_loop
+returns : tie.Need-returns-then-not-in_range invariant_loop decreases_loop
 returns c =
-    let at-loop-test = c.before.before.before.before.before in
-    let at-loop = at-loop-test.before in
-    let start = at-loop.before in
-    let a = start.args in
-    let i = at-loop.loop.i in
-    let fl : SFits w32 (at a.low.now i) = record { sfits = c.before.before.before.before.in-range-arg.given } in
-    let fh : SFits w32 (at a.high.now i) = record { sfits = c.before.before.before.in-range-arg2.given } in
-    let fv : SFits w32 (at a.values.now i) = record { sfits = c.before.before.in-range-arg3.given } in
+    let a = c.args in
+    let i = c.loop-i.i in
+    let fl : SFits w32 (at a.low.now i) = record { sfits = c.in_range-arg-1.given } in
+    let fh : SFits w32 (at a.high.now i) = record { sfits = c.in_range-arg-in-loop-i-1.given } in
+    let fv : SFits w32 (at a.values.now i) = record { sfits = c.in_range-arg-in-loop-i-2-1.given } in
     let e : (le_z (at a.low.now i) (at a.values.now i) && le_z (at a.values.now i) (at a.high.now i)) ≡ false =
-    rw (to_z-of_z fl, to_z-of_z fh, to_z-of_z fv) at (sym c.before.in_range_lem.ensures ∙ not-true _ c.if1.true) in
-    testing_fails at-loop.loop.invariant at-loop-test.loop-test.true start.requires.0 e
+    rw (to_z-of_z fl, to_z-of_z fh, to_z-of_z fv) at (sym c.in_range.ensures ∙ not-true _ c.if-not-in_range.true-raw) in
+    testing_fails c.loop-i.invariant c.loop-i-test.true c.requires.0 e
 
-loop-again : tie.Need-loop-preserved invariant_loop decreases_loop
+loop-again : tie.Need-loop-i-preserved invariant_loop decreases_loop
 loop-again c =
-    let at-loop-test = c.before.before.before.before.before in
-    let at-loop = at-loop-test.before in
-    let start = at-loop.before in
-    let a = start.args in
-    let i = at-loop.loop.i in
-    let fl : SFits w32 (at a.low.now i) = record { sfits = c.before.before.before.before.in-range-arg.given } in
-    let fh : SFits w32 (at a.high.now i) = record { sfits = c.before.before.before.in-range-arg2.given } in
-    let fv : SFits w32 (at a.values.now i) = record { sfits = c.before.before.in-range-arg3.given } in
+    let a = c.args in
+    let i = c.loop-i.i in
+    let fl : SFits w32 (at a.low.now i) = record { sfits = c.in_range-arg-1.given } in
+    let fh : SFits w32 (at a.high.now i) = record { sfits = c.in_range-arg-in-loop-i-1.given } in
+    let fv : SFits w32 (at a.values.now i) = record { sfits = c.in_range-arg-in-loop-i-2-1.given } in
     let e : (le_z (at a.low.now i) (at a.values.now i) && le_z (at a.values.now i) (at a.high.now i)) ≡ true =
-    rw (to_z-of_z fl, to_z-of_z fh, to_z-of_z fv) at (sym c.before.in_range_lem.ensures ∙ not-false _ c.if1.false) in
-    testing_goes at-loop.loop.invariant at-loop-test.loop-test.true start.requires.0 e
+    rw (to_z-of_z fl, to_z-of_z fh, to_z-of_z fv) at (sym c.in_range.ensures ∙ not-false _ c.if-not-in_range.false-raw) in
+    testing_goes c.loop-i.invariant c.loop-i-test.true c.requires.0 e
 
-returns-2 : tie.Need-returns-2 invariant_loop decreases_loop
-returns-2 c = testing_ends c.before.loop.invariant c.loop-test.false
+returns-2 : tie.Need-returns invariant_loop decreases_loop
+returns-2 c = testing_ends c.loop-i.invariant c.loop-i-test.false
 
 pub all_in_range_spec : {M : Type 1} → statement M
 all_in_range_spec =

@@ -13,21 +13,20 @@ use Rattle.machine.proofs.Stores.{Storing, storing_none, storing_goes, storing_e
 use Rattle.machine.proofs.lists.fill.Statement.{statement}
 use Rattle.machine.proofs.lists.fill.Tie as tie
 
-abbrev invariant_loop : tie.invariant_loop
+abbrev invariant_loop : tie.invariant-loop-i
 invariant_loop to₀ from i₀ to i = (i ≤ length from) × Storing to₀ from to 0 i
 
-abbrev decreases_loop : tie.decreases_loop
+abbrev decreases_loop : tie.decreases-loop-i
 decreases_loop to₀ from i₀ to i = length from - i
 
-loop-again : tie.Need-loop-preserved invariant_loop decreases_loop
+loop-again : tie.Need-loop-i-preserved invariant_loop decreases_loop
 loop-again c =
-    let start = c.before.before.before in
-    let f : SFits w32 (get_or start.args.from.now c.before.before.loop.i (pos 0)) = record { sfits = c.to.given } in
-    let q : c.before.before.loop.i - 0 ≡ c.before.before.loop.i = omega arith in
-    (omega arith, storing_goes c.before.before.loop.invariant.1 _ (rw q (to_z-of_z f)) (omega arith))
+    let f : SFits w32 (get_or c.args.from.now c.loop-i.i (pos 0)) = record { sfits = c.to-1.given } in
+    let q : c.loop-i.i - 0 ≡ c.loop-i.i = omega arith in
+    (omega arith, storing_goes c.loop-i.invariant.1 _ (rw q (to_z-of_z f)) (omega arith))
 
 returns : tie.Need-returns invariant_loop decreases_loop
-returns c = storing_ends c.before.loop.invariant.1 (omega arith) (omega arith) ∙ sets_front c.before.before.args.to.now c.before.before.args.from.now c.before.before.requires
+returns c = storing_ends c.loop-i.invariant.1 (omega arith) (omega arith) ∙ sets_front c.args.to.now c.args.from.now c.requires
 
 pub fill_spec : {M : Type 1} → statement M
 fill_spec =

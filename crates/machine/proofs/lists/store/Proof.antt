@@ -11,20 +11,19 @@ use Rattle.machine.proofs.Stores.{Storing, storing_none, storing_goes, storing_e
 use Rattle.machine.proofs.lists.store.Statement.{statement}
 use Rattle.machine.proofs.lists.store.Tie as tie
 
-abbrev invariant_loop : tie.invariant_loop
+abbrev invariant_loop : tie.invariant-loop-i
 invariant_loop to₀ at from end i₀ to i = (i ≤ end) × Storing to₀ from to at i
 
-abbrev decreases_loop : tie.decreases_loop
+abbrev decreases_loop : tie.decreases-loop-i
 decreases_loop to₀ at from end i₀ to i = end - i
 
-loop-again : tie.Need-loop-preserved invariant_loop decreases_loop
+loop-again : tie.Need-loop-i-preserved invariant_loop decreases_loop
 loop-again c =
-    let start = c.before.before.before.before in
-    let f : SFits w32 (get_or start.args.from.now (c.before.before.loop.i - start.args.at) (pos 0)) = record { sfits = c.to.given } in
-    (omega arith, storing_goes c.before.before.loop.invariant.1 _ (to_z-of_z f) (omega arith))
+    let f : SFits w32 (get_or c.args.from.now (c.loop-i.i - c.args.at) (pos 0)) = record { sfits = c.to-1.given } in
+    (omega arith, storing_goes c.loop-i.invariant.1 _ (to_z-of_z f) (omega arith))
 
 returns : tie.Need-returns invariant_loop decreases_loop
-returns c = (c.before.before.behind.ensures, storing_ends c.before.loop.invariant.1 (omega arith) (omega arith))
+returns c = (c.behind-end.ensures, storing_ends c.loop-i.invariant.1 (omega arith) (omega arith))
 
 pub store_spec : {M : Type 1} → statement M
 store_spec =

@@ -8,26 +8,26 @@ use borrow.Author.Rules.{rules}
 use Rattle.machine.proofs.passing.pass_on.Statement.{statement}
 use Rattle.machine.proofs.passing.pass_on.Tie as tie
 
-returns-2 : tie.Need-returns-2
+returns-2 : tie.Need-returns-then-code-behind
 returns-2 c =
-    (some_over _ _ _ _ c.before.before.pass-along.ensures.1.1 c.before.before.before.before.requires.0 c.if2.true, c.before.before.pass-along.ensures.1.0, c.before.before.pass-along.ensures.0)
+    (some_over _ _ _ _ c.pass_along-along.ensures.1.1 c.requires.0 c.if-code-behind.true, c.pass_along-along.ensures.1.0, c.pass_along-along.ensures.0)
 
-returns-3 : tie.Need-returns-3
+returns-3 : tie.Need-returns-then-steps-eq0
 returns-3 c =
-    let a = c.before.before.before.before.before.before.before.before.args in
-    subst (λ (k : ℕ). BrokenOver a.code.now k) (c.before.before.before.before.before.before.pass-along.ensures.1.1 c.if3.true) (subst (λ x. PassedBy a.code.now c.before.before.before.before.before.before.pass-along.result.at 1 x) c.before.enum_told.given.1 c.before.before.before.pass-over.ensures)
+    let a = c.args in
+    subst (λ (k : ℕ). BrokenOver a.code.now k) (c.pass_along-along.ensures.1.1 c.if-steps-eq0.true) (subst (λ x. PassedBy a.code.now c.pass_along-along.result.at 1 x) c.in_default.is c.pass_over.ensures)
 
-add-t11 : tie.Need-overflow-add-t11
+add-t11 : tie.Need-overflow_add-result
 add-t11 c =
-    let a = c.before.before.before.before.before.before.before.before.args in
-    let s = subst (λ x. PassedBy a.code.now c.before.before.before.before.before.before.pass-along.result.at 1 x) c.before.p.given.1 c.before.before.before.pass-over.ensures in
-    omega (arith, s.1, c.before.before.before.before.before.if1.false, c.before.before.before.before.before.before.before.before.well_formed.1.1)
+    let a = c.args in
+    let s = subst (λ x. PassedBy a.code.now c.pass_along-along.result.at 1 x) c.in-On.is c.pass_over.ensures in
+    omega (arith, s.1, c.if-left-steps.false, c.well_formed.1.1)
 
-returns-5 : tie.Need-returns-5
+returns-5 : tie.Need-returns
 returns-5 c =
-    let a = c.before.before.before.before.before.before.before.before.args in
-    let s = subst (λ x. PassedBy a.code.now c.before.before.before.before.before.before.pass-along.result.at 1 x) c.before.p.given.1 c.before.before.before.pass-over.ensures in
-    (omega (arith, s.0), omega (arith, s.1, c.before.before.before.before.before.if1.false), further_over a.code.now a.at _ _ _ _ _ c.before.before.before.before.before.before.pass-along.ensures.0 s.2)
+    let a = c.args in
+    let s = subst (λ x. PassedBy a.code.now c.pass_along-along.result.at 1 x) c.in-On.is c.pass_over.ensures in
+    (omega (arith, s.0), omega (arith, s.1, c.if-left-steps.false), further_over a.code.now a.at _ _ _ _ _ c.pass_along-along.ensures.0 s.2)
 
 pub pass_on_spec : {M : Type 1} → statement M
 pass_on_spec =

@@ -9,35 +9,35 @@ use borrow.Author.Rules.{rules}
 use Rattle.machine.proofs.timer.pass.Statement.{statement}
 use Rattle.machine.proofs.timer.pass.Tie as tie
 
-returns : tie.Need-returns
+returns : tie.Need-returns-in_default
 returns c =
-    let a = c.before.before.before.before.args in
-    let p = c.before.before.before.before.requires in
+    let a = c.args in
+    let p = c.requires in
     broken_over a.code.now a.at p.0
-    (timer_fetched a.code.now a.at p.1 ∙ timer_first a.code.now (a.at + 1) (sym c.before.before.unsigned-at.ensures ∙ ap unsigned_read c.enum_told.given.1))
+    (timer_fetched a.code.now a.at p.1 ∙ timer_first a.code.now (a.at + 1) (sym c.unsigned_at.ensures ∙ ap unsigned_read c.in_default.is))
 
-returns-2 : tie.Need-returns-2
+returns-2 : tie.Need-returns-in_default-unsigned_at
 returns-2 c =
-    let a = c.before.before.before.before.before.before.before.before.args in
-    let p = c.before.before.before.before.before.before.before.before.requires in
+    let a = c.args in
+    let p = c.requires in
     broken_over a.code.now a.at p.0
-    (timer_fetched a.code.now a.at p.1 ∙ timer_second a.code.now (a.at + 1) _ _ (sym c.before.before.before.before.before.before.unsigned-at.ensures ∙ ap unsigned_read c.before.before.before.before.second.given.1) (sym c.before.before.unsigned-at2.ensures ∙ ap unsigned_read c.enum-told2.given.1))
+    (timer_fetched a.code.now a.at p.1 ∙ timer_second a.code.now (a.at + 1) _ _ (sym c.unsigned_at.ensures ∙ ap unsigned_read c.in-Number.is) (sym c.unsigned_at-2.ensures ∙ ap unsigned_read c.in_default-unsigned_at.is))
 
-returns-3 : tie.Need-returns-3
+returns-3 : tie.Need-returns-in_default-unsigned_at-2
 returns-3 c =
-    let a = c.before.before.before.before.before.before.before.before.before.before.before.before.args in
-    let p = c.before.before.before.before.before.before.before.before.before.before.before.before.requires in
+    let a = c.args in
+    let p = c.requires in
     broken_over a.code.now a.at p.0
-    (timer_fetched a.code.now a.at p.1 ∙ timer_third a.code.now (a.at + 1) _ _ (sym c.before.before.before.before.before.before.before.before.before.before.unsigned-at.ensures ∙ ap unsigned_read c.before.before.before.before.before.before.before.before.second.given.1) _ _ (sym c.before.before.before.before.before.before.unsigned-at2.ensures ∙ ap unsigned_read c.before.before.before.before.third.given.1) (sym c.before.before.unsigned-at3.ensures ∙ ap unsigned_read c.enum-told3.given.1))
+    (timer_fetched a.code.now a.at p.1 ∙ timer_third a.code.now (a.at + 1) _ _ (sym c.unsigned_at.ensures ∙ ap unsigned_read c.in-Number.is) _ _ (sym c.unsigned_at-2.ensures ∙ ap unsigned_read c.in-Number-unsigned_at.is) (sym c.unsigned_at-3.ensures ∙ ap unsigned_read c.in_default-unsigned_at-2.is))
 
-returns-4 : tie.Need-returns-4
+returns-4 : tie.Need-returns
 returns-4 c =
-    let a = c.before.before.before.before.before.before.before.before.before.before.before.before.before.args in
-    let p = c.before.before.before.before.before.before.before.before.before.before.before.before.before.requires in (
+    let a = c.args in
+    let p = c.requires in (
       omega arith,
       omega arith,
       timer_over a.code.now a.at p.0 _ _ _ _
-          (timer_fetched a.code.now a.at p.1 ∙ timer_read a.code.now (a.at + 1) _ _ (sym c.before.before.before.before.before.before.before.before.before.before.before.unsigned-at.ensures ∙ ap unsigned_read c.before.before.before.before.before.before.before.before.before.second.given.1) _ _ (sym c.before.before.before.before.before.before.before.unsigned-at2.ensures ∙ ap unsigned_read c.before.before.before.before.before.third.given.1) _ _ (sym c.before.before.before.unsigned-at3.ensures ∙ ap unsigned_read c.before.next.given.1)),
+          (timer_fetched a.code.now a.at p.1 ∙ timer_read a.code.now (a.at + 1) _ _ (sym c.unsigned_at.ensures ∙ ap unsigned_read c.in-Number.is) _ _ (sym c.unsigned_at-2.ensures ∙ ap unsigned_read c.in-Number-unsigned_at.is) _ _ (sym c.unsigned_at-3.ensures ∙ ap unsigned_read c.in-Number-unsigned_at-2.is)),
     )
 
 pub pass_spec : {M : Type 1} → statement M

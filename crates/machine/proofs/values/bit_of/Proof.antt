@@ -4,13 +4,13 @@ use Rattle.machine.specs.Step.{bit}
 use Rattle.machine.proofs.values.bit_of.Statement.{statement}
 use Rattle.machine.proofs.values.bit_of.Tie as tie
 
-returns : tie.Need-returns
+returns : tie.Need-returns-then-b
 unfolding bit
-returns c = ap bit (sym c.if1.true)
+returns c = ap bit (sym c.if-b.true)
 
-returns-2 : tie.Need-returns-2
+returns-2 : tie.Need-returns-else-b
 unfolding bit
-returns-2 c = ap bit (sym c.if1.false)
+returns-2 c = ap bit (sym c.if-b.false)
 
 pub bit_of_spec : {M : Type 1} → statement M
 bit_of_spec = tie.close (tie.spec returns returns-2)

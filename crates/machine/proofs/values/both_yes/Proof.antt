@@ -7,15 +7,14 @@ use Rattle.machine.specs.Step.{yes}
 use Rattle.machine.proofs.values.both_yes.Statement.{statement}
 use Rattle.machine.proofs.values.both_yes.Tie as tie
 
-returns : tie.Need-returns
+returns : tie.Need-returns-then-is_yes
 returns c =
-    let start = c.before.before.before in
-    let h : yes start.args.a ≡ true = rw (to_z-of_z start.ranges.a) at (sym c.before.before.is-yes.ensures ∙ c.before.if1.true) in
-    rw (h, c.is-yes2.ensures, to_z-of_z start.ranges.b)
+    let h : yes c.args.a ≡ true = rw (to_z-of_z c.ranges.a) at (sym c.is_yes.ensures ∙ c.if-is_yes.true) in
+    rw (h, c.is_yes-then-is_yes.ensures, to_z-of_z c.ranges.b)
 
-returns-2 : tie.Need-returns-2
+returns-2 : tie.Need-returns
 returns-2 c =
-    let h : yes c.before.before.args.a ≡ false = rw (to_z-of_z c.before.before.ranges.a) at (sym c.before.is-yes.ensures ∙ c.if1.false) in
+    let h : yes c.args.a ≡ false = rw (to_z-of_z c.ranges.a) at (sym c.is_yes.ensures ∙ c.if-is_yes.false) in
     rw h
 
 pub both_yes_spec : {M : Type 1} → statement M

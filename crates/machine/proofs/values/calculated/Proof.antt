@@ -8,8 +8,8 @@ use Rattle.machine.proofs.values.calculated.Tie as tie
 
 returns : tie.Need-returns
 returns c =
-    let f = c.before.before.ranges in
-    c.narrow.ensures ∙ ap int32 (given64 c.before.exact.result c.before.exact.type-inv) ∙ c.before.exact.ensures ∙ rw (same32 f.a, same32 f.b)
+    let f = c.ranges in
+    c.narrow.ensures ∙ ap int32 (given64 c.exact.result c.exact.type_inv) ∙ c.exact.ensures ∙ rw (same32 f.a, same32 f.b)
 
 pub calculated_spec : {M : Type 1} → statement M
 calculated_spec = tie.close (tie.spec (λ c κs. search rules) (λ c κs. search rules) returns)

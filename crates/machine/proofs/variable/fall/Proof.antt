@@ -18,44 +18,39 @@ use Rattle.arith.specs.Values.{compares}
 use Rattle.machine.proofs.variable.fall.Statement.{statement}
 use Rattle.machine.proofs.variable.fall.Tie as tie
 
-returns : tie.Need-returns
-returns c = (λ ns r. pop_none c.before.args.vals.now c.before.args.m.held _ c.if1.true, search rules)
+returns : tie.Need-returns-then-n-eq0
+returns c = (λ ns r. pop_none c.args.vals.now c.args.m.held _ c.if-n-eq0.true, search rules)
 
-returns-2 : tie.Need-returns-2
+returns-2 : tie.Need-returns-then-prev-i
 returns-2 c =
-    let a = c.before.before.args in
-    let h : length a.low.now ≤ a.id = omega (arith, c.before.before.requires.1.previous, c.if2.true) in
-    (λ ns r. pick_undeclared ns a.low.now a.high.now r a.prev.now a.vals.now a.m.held a.m.picked a.cur.now a.id c.before.if1.false falling h, search rules)
+    let a = c.args in
+    let h : length a.low.now ≤ a.id = omega (arith, c.requires.1.previous, c.if-prev-i.true) in
+    (λ ns r. pick_undeclared ns a.low.now a.high.now r a.prev.now a.vals.now a.m.held a.m.picked a.cur.now a.id c.if-n-eq0.false falling h, search rules)
 
-returns-3 : tie.Need-returns-3
+returns-3 : tie.Need-returns-then-is_greater_equal
 unfolding compares moves
 returns-3 c =
-    let a = c.before.before.before.before.before.before.args in
+    let a = c.args in
     let v = at a.vals.now (a.m.held - 1) in
     let p = at a.prev.now a.id in
-    let fv : SFits w32 v = record { sfits = c.before.before.before.is-greater-equal-arg.given } in
-    let fp : SFits w32 p = record { sfits = c.before.before.is-greater-equal-arg2.given } in
-    let e : le_z p v ≡ true = rw (to_z-of_z fv, to_z-of_z fp) at (sym c.before.is-greater-equal.ensures ∙ c.if3.true) in
-    let h : a.id < length a.low.now = omega (arith, c.before.before.before.before.before.before.requires.1.previous, c.before.before.before.before.if2.false) in
-    (λ ns r. pick_refused ns a.low.now a.high.now r a.prev.now a.vals.now a.m.held a.m.picked a.cur.now a.id c.before.before.before.before.before.if1.false h falling (rw e), search rules)
+    let fv : SFits w32 v = record { sfits = c.is_greater_equal-arg-1.given } in
+    let fp : SFits w32 p = record { sfits = c.is_greater_equal-arg-2-1.given } in
+    let e : le_z p v ≡ true = rw (to_z-of_z fv, to_z-of_z fp) at (sym c.is_greater_equal.ensures ∙ c.if-is_greater_equal.true) in
+    let h : a.id < length a.low.now = omega (arith, c.requires.1.previous, c.if-prev-i.false) in
+    (λ ns r. pick_refused ns a.low.now a.high.now r a.prev.now a.vals.now a.m.held a.m.picked a.cur.now a.id c.if-n-eq0.false h falling (rw e), search rules)
 
-returns-4 : tie.Need-returns-4
+returns-4 : tie.Need-returns
 unfolding compares moves
 returns-4 c =
-    let at-is-greater-equal-arg2 = c.before.before.before.before.before in
-    let at-is-greater-equal-arg = at-is-greater-equal-arg2.before in
-    let at-if2 = at-is-greater-equal-arg.before in
-    let at-if1 = at-if2.before in
-    let start = at-if1.before in
-    let a = start.args in
+    let a = c.args in
     let v = at a.vals.now (a.m.held - 1) in
     let p = at a.prev.now a.id in
-    let fv : SFits w32 v = record { sfits = at-is-greater-equal-arg.is-greater-equal-arg.given } in
-    let fp : SFits w32 p = record { sfits = at-is-greater-equal-arg2.is-greater-equal-arg2.given } in
-    let e : le_z p v ≡ false = rw (to_z-of_z fv, to_z-of_z fp) at (sym c.before.before.before.before.is-greater-equal.ensures ∙ c.before.before.before.if3.false) in
-    let h : a.id < length a.low.now = omega (arith, start.requires.1.previous, at-if2.if2.false) in
-    let some = at-if1.if1.false in
-    let done = c.before.assign.ensures in
+    let fv : SFits w32 v = record { sfits = c.is_greater_equal-arg-1.given } in
+    let fp : SFits w32 p = record { sfits = c.is_greater_equal-arg-2-1.given } in
+    let e : le_z p v ≡ false = rw (to_z-of_z fv, to_z-of_z fp) at (sym c.is_greater_equal.ensures ∙ c.if-is_greater_equal.false) in
+    let h : a.id < length a.low.now = omega (arith, c.requires.1.previous, c.if-prev-i.false) in
+    let some = c.if-n-eq0.false in
+    let done = c.assign.ensures in
     (λ ns r. done.0 ns a.prev.now r ∙ pick_moved ns a.low.now a.high.now r a.prev.now a.vals.now a.m.held a.m.picked a.cur.now a.id some h falling (rw e), done.1)
 
 pub fall_spec : {M : Type 1} → statement M

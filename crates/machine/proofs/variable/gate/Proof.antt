@@ -15,34 +15,32 @@ use Rattle.machine.specs.Step.{yes}
 use Rattle.machine.proofs.variable.gate.Statement.{statement}
 use Rattle.machine.proofs.variable.gate.Tie as tie
 
-returns : tie.Need-returns
-returns c = (λ ns s t. pop_none c.before.args.vals.now c.before.args.m.held _ c.if1.true, search rules)
+returns : tie.Need-returns-then-n-eq0
+returns c = (λ ns s t. pop_none c.args.vals.now c.args.m.held _ c.if-n-eq0.true, search rules)
 
-returns-2 : tie.Need-returns-2
+returns-2 : tie.Need-returns-then-not-is_yes
 returns-2 c =
-    let start = c.before.before.before.before in
-    let l = start.args.vals.now in
-    let n = start.args.m.held in
-    let f : SFits w32 (get_or l (n - 1) (pos 0)) = record { sfits = c.before.before.is-yes-arg.given } in
-    let e : yes (get_or l (n - 1) (pos 0)) ≡ false = rw (to_z-of_z f) at (sym c.before.is-yes.ensures ∙ not-true _ c.if2.true) in
-    (λ ns s t. rw (pop-top l n _ c.before.before.before.if1.false, e), omega (arith, start.requires.few))
+    let l = c.args.vals.now in
+    let n = c.args.m.held in
+    let f : SFits w32 (get_or l (n - 1) (pos 0)) = record { sfits = c.is_yes-arg-1.given } in
+    let e : yes (get_or l (n - 1) (pos 0)) ≡ false = rw (to_z-of_z f) at (sym c.is_yes.ensures ∙ not-true _ c.if-not-is_yes.true-raw) in
+    (λ ns s t. rw (pop-top l n _ c.if-n-eq0.false, e), omega (arith, c.requires.few))
 
-returns-3 : tie.Need-returns-3
+returns-3 : tie.Need-returns-then-picked
 returns-3 c =
-    let l = c.before.before.before.before.before.args.vals.now in
-    let n = c.before.before.before.before.before.args.m.held in
-    let f : SFits w32 (get_or l (n - 1) (pos 0)) = record { sfits = c.before.before.before.is-yes-arg.given } in
-    let e : yes (get_or l (n - 1) (pos 0)) ≡ true = rw (to_z-of_z f) at (sym c.before.before.is-yes.ensures ∙ not-false _ c.before.if2.false) in
-    (λ ns s t. rw (pop-top l n _ c.before.before.before.before.if1.false, e, c.if3.true), search rules)
+    let l = c.args.vals.now in
+    let n = c.args.m.held in
+    let f : SFits w32 (get_or l (n - 1) (pos 0)) = record { sfits = c.is_yes-arg-1.given } in
+    let e : yes (get_or l (n - 1) (pos 0)) ≡ true = rw (to_z-of_z f) at (sym c.is_yes.ensures ∙ not-false _ c.if-not-is_yes.false-raw) in
+    (λ ns s t. rw (pop-top l n _ c.if-n-eq0.false, e, c.if-picked.true), search rules)
 
-returns-4 : tie.Need-returns-4
+returns-4 : tie.Need-returns
 returns-4 c =
-    let start = c.before.before.before.before.before in
-    let l = start.args.vals.now in
-    let n = start.args.m.held in
-    let f : SFits w32 (get_or l (n - 1) (pos 0)) = record { sfits = c.before.before.before.is-yes-arg.given } in
-    let e : yes (get_or l (n - 1) (pos 0)) ≡ true = rw (to_z-of_z f) at (sym c.before.before.is-yes.ensures ∙ not-false _ c.before.if2.false) in
-    (λ ns s t. rw (pop-top l n _ c.before.before.before.before.if1.false, e, c.if3.false), omega (arith, start.requires.few))
+    let l = c.args.vals.now in
+    let n = c.args.m.held in
+    let f : SFits w32 (get_or l (n - 1) (pos 0)) = record { sfits = c.is_yes-arg-1.given } in
+    let e : yes (get_or l (n - 1) (pos 0)) ≡ true = rw (to_z-of_z f) at (sym c.is_yes.ensures ∙ not-false _ c.if-not-is_yes.false-raw) in
+    (λ ns s t. rw (pop-top l n _ c.if-n-eq0.false, e, c.if-picked.false), omega (arith, c.requires.few))
 
 pub gate_spec : {M : Type 1} → statement M
 gate_spec =

@@ -26,16 +26,16 @@ below t = and 1 kinds.ps (falls 1 kinds.ps ◌<◌ μ t) reads.Pre
 abbrev claims : ℕ → lts.Claims
 claims t = (put-byte-reads.Asked, put-byte-reads.Learnt, below t, reads.Post)
 
-returns : (t : ℕ) → lts.Need-returns (claims t) (at t) reads.Post
+returns : (t : ℕ) → lts.Need-returns-then-n-lt10 (claims t) (at t) reads.Post
 returns t c =
     let k = c.before.before.before.before in
-    rw (decimal_small k.before.before.args.n k.if1.true) c.before.before.put_byte.ensures
+    rw (decimal_small k.args.n k.if-n-lt10.true) c.put_byte.ensures
 
-returns-2 : (t : ℕ) → lts.Need-returns-2 (claims t) (at t) reads.Post
+returns-2 : (t : ℕ) → lts.Need-returns (claims t) (at t) reads.Post
 returns-2 t c =
     let k = c.before.before.before.before.before.before in
     let s = k.before.before in
-    rw (decimal_more s.before.before.args.n s.if1.false) (put_then k.put-unsigned-decimal.ensures c.before.before.put-byte2.ensures)
+    rw (decimal_more s.args.n s.if-n-lt10.false) (put_then k.put_unsigned_decimal-next.ensures c.put_byte-2.ensures)
 
 pub +put_unsigned_decimal_spec : {M : Type 1} → statement M
 +put_unsigned_decimal_spec =

@@ -10,27 +10,27 @@ use Rattle.trace_text.proofs.Puts.{put_clip, Putting, putting, putting_next, put
 use Rattle.trace_text.proofs.print.put_bytes.Statement.{statement}
 use Rattle.trace_text.proofs.print.put_bytes.Tie as tie
 
-abbrev invariant_loop : tie.invariant_loop
+abbrev invariant_loop : tie.invariant-loop-i
 invariant_loop out₀ at word place₀ i₀ out place i = Putting out₀ place₀ word out place (drop i word)
 
-abbrev decreases_loop : tie.decreases_loop
+abbrev decreases_loop : tie.decreases-loop-i
 decreases_loop out₀ at word place₀ i₀ out place i = length word - i
 
-loop-holds : tie.Need-loop-init invariant_loop decreases_loop
-loop-holds c = let e = c.clip.ensures in putting _ _ _ (omega arith)
+loop-holds : tie.Need-loop-i-init invariant_loop decreases_loop
+loop-holds c = let e = c.clip-place.ensures in putting _ _ _ (omega arith)
 
-loop-again : tie.Need-loop-preserved invariant_loop decreases_loop
+loop-again : tie.Need-loop-i-preserved invariant_loop decreases_loop
 loop-again c =
     let at-loop-test = c.before.before.before.before.before in
     let at-loop = at-loop-test.before in
     let start = at-loop.before.before.before.before in
-    putting_next (get_or start.args.word.now at-loop.loop.i 0 ∷ []) at-loop.loop.invariant (rw add-one (drop-cons start.args.word.now at-loop.loop.i 0 at-loop-test.loop-test.true)) c.before.before.put_byte.ensures
+    putting_next (get_or start.args.word.now at-loop.loop-i.i 0 ∷ []) at-loop.loop-i.invariant (rw add-one (drop-cons start.args.word.now at-loop.loop-i.i 0 at-loop-test.loop-i-test.true)) c.put_byte-place.ensures
 
-same_length : tie.Need-same-length invariant_loop decreases_loop
-same_length c = c.before.loop.invariant.same
+same_length : tie.Need-shape_of-out invariant_loop decreases_loop
+same_length c = c.loop-i.invariant.same
 
 returns : tie.Need-returns invariant_loop decreases_loop
-returns c = put_clip (rw c.before.before.clip.ensures at (putting_done c.before.loop.invariant (drop_of_length-le c.before.before.before.before.before.args.word.now c.loop-test.false)))
+returns c = put_clip (rw c.clip-place.ensures at (putting_done c.loop-i.invariant (drop_of_length-le c.args.word.now c.loop-i-test.false)))
 
 pub put_bytes_spec : {M : Type 1} → statement M
 put_bytes_spec =

@@ -10,13 +10,13 @@ returns : tie.Need-returns
 returns c =
     let n = c.before.before.before.before.before.before.before in
     let w = n.before.before.before.before in
-    let a = w.before.before.before.before.before.before.before.args in
+    let a = w.args in
     put_as
-    (put_then (put_then w.put-bytes.ensures n.put-names.ensures) c.before.before.put-bytes2.ensures)
+    (put_then (put_then w.put_bytes-first.ensures n.put_names-second.ensures) c.put_bytes.ensures)
     (head_is (table_names a.text.now a.starts.now a.ends.now a.count))
 
 pub put_head_spec : {M : Type 1} → statement M
 put_head_spec =
     tie.close
-    (tie.spec (λ c. search rules) (λ c κs. search rules) (λ c κs. search rules) (λ c. search rules) (λ c κs. search rules)
-    (λ c. search rules) returns)
+    (tie.spec (λ c. search rules) (λ c κs. search rules) (λ c κs. search rules) (λ c. search rules)
+    returns)

@@ -5,7 +5,7 @@ use Rattle.trace_text.proofs.print.put_name.Statement.{statement}
 use Rattle.trace_text.proofs.print.put_name.Tie as tie
 
 returns : tie.Need-returns
-returns c = put_then c.before.before.before.before.before.before.before.put_byte.ensures (rw c.before.before.before.name.ensures at c.before.before.put-bytes.ensures)
+returns c = put_then c.put_byte-next.ensures (rw c.name.ensures at c.put_bytes.ensures)
 
 pub put_name_spec : {M : Type 1} → statement M
 put_name_spec = tie.close (tie.spec (λ c κs. search rules) (λ c κs. search rules) (λ c κs. search rules) (λ c. search rules) returns)

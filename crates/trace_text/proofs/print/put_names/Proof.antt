@@ -14,47 +14,47 @@ use Rattle.trace_text.proofs.Printing.{no_starts, no-ends, spelled_next}
 use Rattle.trace_text.proofs.print.put_names.Statement.{statement}
 use Rattle.trace_text.proofs.print.put_names.Tie as tie
 
-abbrev invariant_loop : tie.invariant_loop
+abbrev invariant_loop : tie.invariant-loop-i
 invariant_loop out₀ at text starts ends count place₀ i₀ out place i =
     Putting out₀ place₀ (spaced (table_names text starts ends count)) out place (spaced (table_names text (drop i starts) (drop i ends) (count - i)))
 
-abbrev decreases_loop : tie.decreases_loop
+abbrev decreases_loop : tie.decreases-loop-i
 decreases_loop out₀ at text starts ends count place₀ i₀ out place i = count - i
 
-loop-holds : tie.Need-loop-init invariant_loop decreases_loop
+loop-holds : tie.Need-loop-i-init invariant_loop decreases_loop
 loop-holds c =
     let start = c.before.before.before.before.before in
-    let e = c.clip.ensures in let z : start.args.count - 0 ≡ start.args.count = omega arith in rw z (putting _ _ _ (omega arith))
+    let e = c.clip-place.ensures in let z : start.args.count - 0 ≡ start.args.count = omega arith in rw z (putting _ _ _ (omega arith))
 
-same_length : tie.Need-same-length invariant_loop decreases_loop
-same_length c = c.before.before.loop.invariant.same
+same_length : tie.Need-shape_of-out-then-starts-i invariant_loop decreases_loop
+same_length c = c.loop-i.invariant.same
 
-returns : tie.Need-returns invariant_loop decreases_loop
+returns : tie.Need-returns-then-starts-i invariant_loop decreases_loop
 returns c =
-    put_clip (rw c.before.before.before.clip.ensures at (putting_done c.before.before.loop.invariant (rw (drop_of_length-le c.before.before.before.before.before.before.before.before.args.starts.now c.if1.true, no_starts))))
+    put_clip (rw c.clip-place.ensures at (putting_done c.loop-i.invariant (rw (drop_of_length-le c.args.starts.now c.if-starts-i.true, no_starts))))
 
-same-length-2 : tie.Need-same-length-2 invariant_loop decreases_loop
-same-length-2 c = c.before.before.before.loop.invariant.same
+same-length-2 : tie.Need-shape_of-out-then-ends-i invariant_loop decreases_loop
+same-length-2 c = c.loop-i.invariant.same
 
-returns-2 : tie.Need-returns-2 invariant_loop decreases_loop
-returns-2 c = put_clip (rw c.before.before.before.before.clip.ensures at (putting_done c.before.before.before.loop.invariant (rw (drop_of_length-le c.before.before.before.before.before.before.before.before.before.args.ends.now c.if2.true, no-ends))))
+returns-2 : tie.Need-returns-then-ends-i invariant_loop decreases_loop
+returns-2 c = put_clip (rw c.clip-place.ensures at (putting_done c.loop-i.invariant (rw (drop_of_length-le c.args.ends.now c.if-ends-i.true, no-ends))))
 
-loop-again : tie.Need-loop-preserved invariant_loop decreases_loop
+loop-again : tie.Need-loop-i-preserved invariant_loop decreases_loop
 loop-again c =
     let at-if2 = c.before.before.before.before.before.before in
     let at-if1 = at-if2.before in
     let at-loop-test = at-if1.before in
     let at-loop = at-loop-test.before in
     let start = at-loop.before.before.before.before.before.before in
-    putting_next (32 ∷ part start.args.text.now (get_or start.args.starts.now at-loop.loop.i 0) (get_or start.args.ends.now at-loop.loop.i 0)) at-loop.loop.invariant
-    (rw (spelled_next start.args.text.now start.args.starts.now start.args.ends.now start.args.count at-loop.loop.i at-loop-test.loop-test.true at-if1.if1.false at-if2.if2.false)) c.before.before.put-name.ensures
+    putting_next (32 ∷ part start.args.text.now (get_or start.args.starts.now at-loop.loop-i.i 0) (get_or start.args.ends.now at-loop.loop-i.i 0)) at-loop.loop-i.invariant
+    (rw (spelled_next start.args.text.now start.args.starts.now start.args.ends.now start.args.count at-loop.loop-i.i at-loop-test.loop-i-test.true at-if1.if-starts-i.false at-if2.if-ends-i.false)) c.put_name-place.ensures
 
-same-length-3 : tie.Need-same-length-3 invariant_loop decreases_loop
-same-length-3 c = c.before.loop.invariant.same
+same-length-3 : tie.Need-shape_of-out invariant_loop decreases_loop
+same-length-3 c = c.loop-i.invariant.same
 
-returns-3 : tie.Need-returns-3 invariant_loop decreases_loop
+returns-3 : tie.Need-returns invariant_loop decreases_loop
 returns-3 c =
-    let z : c.before.before.before.before.before.before.before.args.count - c.before.loop.i ≡ 0 = omega arith in put_clip (rw c.before.before.clip.ensures at (putting_done c.before.loop.invariant (rw (z, names_none))))
+    let z : c.args.count - c.loop-i.i ≡ 0 = omega arith in put_clip (rw c.clip-place.ensures at (putting_done c.loop-i.invariant (rw (z, names_none))))
 
 pub put_names_spec : {M : Type 1} → statement M
 put_names_spec =

@@ -15,7 +15,7 @@ returns c =
     let start = w.before.before.before.before in
     let a = start.args in (
       put_as
-          (put_then (put_then (put_then (put_then w.put-bytes.ensures n.put-unsigned-decimal.ensures) b.put-bytes2.ensures) d.put-unsigned-decimal2.ensures) c.before.before.put_byte.ensures)
+          (put_then (put_then (put_then (put_then w.put_bytes-first.ensures n.put_unsigned_decimal-second.ensures) b.put_bytes-third.ensures) d.put_unsigned_decimal-fourth.ensures) c.put_byte.ensures)
           (refused_is a.number a.place),
       refused_length a.number a.place start.ranges.number.fits start.ranges.place.fits,
     )
@@ -24,4 +24,4 @@ pub put_refused_spec : {M : Type 1} → statement M
 put_refused_spec =
     tie.close
     (tie.spec (λ c. search rules) (λ c κs. search rules) (λ c κs. search rules) (λ c. search rules) (λ c κs. search rules)
-    (λ c κs. search rules) (λ c κs. search rules) (λ c. search rules) returns)
+    (λ c. search rules) returns)

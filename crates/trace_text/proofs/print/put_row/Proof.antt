@@ -15,9 +15,9 @@ returns c =
     let start = n.before.before.before in
     let a = start.args in (
       put_as
-          (put_then (put_then (put_then (put_then n.put-unsigned-decimal.ensures v.put-values.ensures.0) b.put_byte.ensures) d.put-unsigned-decimal2.ensures) c.before.before.put-byte2.ensures)
+          (put_then (put_then (put_then (put_then n.put_unsigned_decimal-first.ensures v.put_values-second.ensures.0) b.put_byte-third.ensures) d.put_unsigned_decimal-fourth.ensures) c.put_byte.ensures)
           (row_is a.number a.values.now a.refusal),
-      row_length_lem a.number a.values.now a.refusal start.ranges.number.fits start.ranges.refusal.fits v.put-values.ensures.1,
+      row_length_lem a.number a.values.now a.refusal start.ranges.number.fits start.ranges.refusal.fits v.put_values-second.ensures.1,
     )
 
 pub put_row_spec : {M : Type 1} → statement M
