@@ -103,10 +103,10 @@ pub fn keep(w: Walk, sort: u64) -> Advanced
     Advanced::Kept(w)
 }
 
-// Two values of a sort give way to one of the sort `result`.
-pub fn join(w: Walk, sort: u64, res: u64) -> Advanced
-    requires { (Small w) × (sort < 2) × (res < 2) }
-    ensures result_value { advanced_known result ≡ joined (sort_of sort) (sort_of res) (known_of w) }
+// Two values of a sort give way to one of the sort `made`.
+pub fn join(w: Walk, sort: u64, made: u64) -> Advanced
+    requires { (Small w) × (sort < 2) × (made < 2) }
+    ensures result_value { advanced_known result ≡ joined (sort_of sort) (sort_of made) (known_of w) }
     ensures small_after { SmallAfter result }
 {
     if w.held < 2 {
@@ -121,7 +121,7 @@ pub fn join(w: Walk, sort: u64, res: u64) -> Advanced
     }
     let mut k = w;
     k.held = w.held - 1;
-    k.sorts = below / 2 * 2 + res;
+    k.sorts = below / 2 * 2 + made;
     Advanced::Kept(k)
 }
 
