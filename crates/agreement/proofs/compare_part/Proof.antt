@@ -5,11 +5,9 @@ use borrow.Author.Rules.{rules}
 use Rattle.agreement.proofs.compare_part.Statement.{statement}
 use Rattle.agreement.proofs.compare_part.Tie as tie
 
-returns-2 : tie.Need-returns-2
+returns-2 : tie.Need-returns
 returns-2 c =
-    let at-repeated = c.before.before.before.before in
-    let start = at-repeated.before.before in
-    ap compared_of c.reached.ensures ∙ sym (subst (RepetitionBy start.args.text.now start.args.from start.args.to start.args.at) c.before.before.again.given.1 at-repeated.repeated.ensures start.requires.1)
+    ap compared_of c.reached.ensures ∙ sym (subst (RepetitionBy c.args.text.now c.args.from c.args.to c.args.at) c.in-Until.is c.repeated-again.ensures c.requires.1)
 
 pub compare_part_spec : {M : Type 1} → statement M
 compare_part_spec =

@@ -11,63 +11,45 @@ use Rattle.agreement.proofs.Parts.{Matching, matching, matched, unmatched_fault,
 use Rattle.agreement.proofs.compare_tokens.Statement.{statement}
 use Rattle.agreement.proofs.compare_tokens.Tie as tie
 
-abbrev invariant_loop : tie.invariant_loop
+abbrev invariant_loop : tie.invariant-loop-a
 invariant_loop text from to at a₀ b₀ a b = Matching text from to at a b
 
-abbrev decreases_loop : tie.decreases_loop
+abbrev decreases_loop : tie.decreases-loop-a
 decreases_loop text from to at a₀ b₀ a b = to - a
 
-loop-holds : tie.Need-loop-init invariant_loop decreases_loop
-loop-holds c = matching _ _ _ _ c.before.requires
+loop-holds : tie.Need-loop-a-init invariant_loop decreases_loop
+loop-holds c = matching _ _ _ _ c.requires
 
-returns : tie.Need-returns invariant_loop decreases_loop
-returns c = ap compared_of c.enum_told.given.1 ∙ unmatched_fault _ _ _ _ _ _ c.before.before.before.before.loop.invariant c.before.before.before.loop-test.true _ (is_fault _ _ _ c.before.before.token-at.ensures _ _ c.enum_told.given.1).0
+returns : tie.Need-returns-in_default invariant_loop decreases_loop
+returns c = ap compared_of c.in_default.is ∙ unmatched_fault _ _ _ _ _ _ c.loop-a.invariant c.loop-a-test.true _ (is_fault _ _ _ c.token_at-wanted.ensures _ _ c.in_default.is).0
 
-returns-2 : tie.Need-returns-2 invariant_loop decreases_loop
+returns-2 : tie.Need-returns-in_default-found invariant_loop decreases_loop
 returns-2 c =
-    let at-wanted = c.before.before.before.before in
-    let at-token-at = at-wanted.before.before in
-    let at-loop-test = at-token-at.before in
-    ap compared_of c.enum-told2.given.1
-    ∙ found_fault _ _ _ _ _ _ at-loop-test.before.loop.invariant at-loop-test.loop-test.true _ _ _ (is_token _ _ _ at-token-at.token-at.ensures _ at-wanted.wanted.given.1).0 _ (is_fault _ _ _ c.before.before.token-at2.ensures _ _ c.enum-told2.given.1).0
+    ap compared_of c.in_default-found.is
+    ∙ found_fault _ _ _ _ _ _ c.loop-a.invariant c.loop-a-test.true _ _ _ (is_token _ _ _ c.token_at-wanted.ensures _ c.in-Done.is).0 _ (is_fault _ _ _ c.token_at-found.ensures _ _ c.in_default-found.is).0
 
-same-token-requires : tie.Need-same-token-requires invariant_loop decreases_loop
+same-token-requires : tie.Need-same_token-requires invariant_loop decreases_loop
 same-token-requires c κs =
-    let at-wanted = c.before.before.before.before.before in
-    ((is_token _ _ _ at-wanted.before.before.token-at.ensures _ at-wanted.wanted.given.1).1.known_kind, (is_token _ _ _ c.before.before.before.token-at2.ensures _ c.before.found.given.1).1.known_kind)
+    ((is_token _ _ _ c.token_at-wanted.ensures _ c.in-Done.is).1.known_kind, (is_token _ _ _ c.token_at-found.ensures _ c.in-Done-found.is).1.known_kind)
 
-loop-less : tie.Need-loop-smaller invariant_loop decreases_loop
+loop-less : tie.Need-loop-a-smaller invariant_loop decreases_loop
 loop-less c =
-    let at-wanted = c.before.before.before.before.before.before.before in
-    let at-token-at = at-wanted.before.before in
-    let at-loop-test = at-token-at.before in
-    let start = at-loop-test.before.before.before in
-    let l = progress _ _ _ _ _ (omega (arith, at-loop-test.loop-test.true, start.requires)) (is_token _ _ _ at-token-at.token-at.ensures _ at-wanted.wanted.given.1).0 in omega (arith, l, at-loop-test.loop-test.true)
+    let l = progress _ _ _ _ _ (omega (arith, c.loop-a-test.true, c.requires)) (is_token _ _ _ c.token_at-wanted.ensures _ c.in-Done.is).0 in omega (arith, l, c.loop-a-test.true)
 
-loop-again : tie.Need-loop-preserved invariant_loop decreases_loop
+loop-again : tie.Need-loop-a-preserved invariant_loop decreases_loop
 loop-again c =
-    let at-token-at2 = c.before.before.before.before.before in
-    let at-wanted = at-token-at2.before.before in
-    let at-token-at = at-wanted.before.before in
-    let at-loop-test = at-token-at.before in
-    let at-loop = at-loop-test.before in
-    let start = at-loop.before.before in
-    let w = is_token _ _ _ at-token-at.token-at.ensures _ at-wanted.wanted.given.1 in
-    let f = is_token _ _ _ at-token-at2.token-at2.ensures _ c.before.before.before.found.given.1 in
-    next_tokens _ _ _ _ _ _ at-loop.loop.invariant at-loop-test.loop-test.true _ _ _ w.0 _ _ _ f.0 (sym c.before.same_token_lem.ensures ∙ c.if1.true) (progress _ _ _ _ _ (omega (arith, at-loop-test.loop-test.true, start.requires)) w.0)
+    let w = is_token _ _ _ c.token_at-wanted.ensures _ c.in-Done.is in
+    let f = is_token _ _ _ c.token_at-found.ensures _ c.in-Done-found.is in
+    next_tokens _ _ _ _ _ _ c.loop-a.invariant c.loop-a-test.true _ _ _ w.0 _ _ _ f.0 (sym c.same_token.ensures ∙ c.if-same_token.true) (progress _ _ _ _ _ (omega (arith, c.loop-a-test.true, c.requires)) w.0)
 
-returns-3 : tie.Need-returns-3 invariant_loop decreases_loop
+returns-3 : tie.Need-returns-else-same_token invariant_loop decreases_loop
 returns-3 c =
-    let at-token-at2 = c.before.before.before.before.before in
-    let at-wanted = at-token-at2.before.before in
-    let at-token-at = at-wanted.before.before in
-    let at-loop-test = at-token-at.before in
-    let w = is_token _ _ _ at-token-at.token-at.ensures _ at-wanted.wanted.given.1 in
-    let f = is_token _ _ _ at-token-at2.token-at2.ensures _ c.before.before.before.found.given.1 in
-    unmatched _ _ _ _ _ _ at-loop-test.before.loop.invariant at-loop-test.loop-test.true _ _ _ w.0 _ _ _ f.0 (sym c.before.same_token_lem.ensures ∙ c.if1.false)
+    let w = is_token _ _ _ c.token_at-wanted.ensures _ c.in-Done.is in
+    let f = is_token _ _ _ c.token_at-found.ensures _ c.in-Done-found.is in
+    unmatched _ _ _ _ _ _ c.loop-a.invariant c.loop-a-test.true _ _ _ w.0 _ _ _ f.0 (sym c.same_token.ensures ∙ c.if-same_token.false)
 
-returns-4 : tie.Need-returns-4 invariant_loop decreases_loop
-returns-4 c = ap compared_of c.reached.ensures ∙ matched _ _ _ _ _ _ c.before.before.loop.invariant c.before.loop-test.false
+returns-4 : tie.Need-returns invariant_loop decreases_loop
+returns-4 c = ap compared_of c.reached.ensures ∙ matched _ _ _ _ _ _ c.loop-a.invariant c.loop-a-test.false
 
 pub compare_tokens_spec : {M : Type 1} → statement M
 compare_tokens_spec =

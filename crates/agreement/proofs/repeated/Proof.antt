@@ -8,16 +8,10 @@ use Rattle.agreement.proofs.repeated.Statement.{statement}
 use Rattle.agreement.proofs.repeated.Tie as tie
 
 -- the bytes were found again: the two runs of space end where the part and its repetition begin
-returns-4 : tie.Need-returns-4
+returns-4 : tie.Need-returns-then-same_bytes
 returns-4 c =
-    let at-if3 = c.before.before.before.before in
-    let at-if2 = at-if3.before in
-    let at-if1 = at-if2.before.before in
-    let at-run2 = at-if1.before in
-    let at-run = at-run2.before in
-    let start = at-run.before.before in
-    let same = sym c.before.before.before.name.ensures ∙ same_bytes_lem _ _ (sym c.before.same_bytes.ensures ∙ c.if4.true) ∙ c.before.before.name2.ensures in
-    λ r. part_repeated _ _ _ _ _ _ at-run.run.ensures at-run2.run2.ensures (omega (arith, at-if1.if1.false)) start.requires (omega (arith, at-if3.if3.false, start.requires)) r at-if2.if2.false same
+    let same = sym c.name.ensures ∙ same_bytes_lem _ _ (sym c.same_bytes.ensures ∙ c.if-same_bytes.true) ∙ c.name-2.ensures in
+    λ r. part_repeated _ _ _ _ _ _ c.run-first.ensures c.run-second.ensures (omega (arith, c.if-to-first.false)) c.requires (omega (arith, c.if-text-size.false, c.requires)) r c.if-text-last-ne93.false same
 
 pub repeated_spec : {M : Type 1} → statement M
 repeated_spec =

@@ -6,17 +6,17 @@ use borrow.Author.Rules.{rules}
 use Rattle.before.proofs.before_known.Statement.{statement}
 use Rattle.before.proofs.before_known.Tie as tie
 
-returns : tie.Need-returns
-returns c = (λ k x. plain_length x c.before.before.before.before.args.state.now c.before.before.before.before.args.row.now c.before.before.before.before.requires.lows c.before.before.if1.true c.if2.true, λ k x. refl)
+returns : tie.Need-returns-then-row-m
+returns c = (λ k x. plain_length x c.args.state.now c.args.row.now c.requires.lows c.if-state-m.true c.if-row-m.true, λ k x. refl)
 
-returns-2 : tie.Need-returns-2
+returns-2 : tie.Need-returns-then-state-m
 returns-2 c = (
-  λ k x. c.before.before-ranges.ensures.0 (cells k) x.ranges ∙ plain_rest x c.before.before.before.before.before.before.before.args.state.now c.before.before.before.before.before.before.before.args.row.now c.before.before.before.before.before.before.before.requires.lows c.before.before.before.before.before.if1.true c.before.before.before.if2.false,
-  λ k x. plain_prepared x c.before.before.before.before.before.before.before.args.state.now c.before.before.before.before.before.before.before.args.row.now c.before.before.before.before.before.before.before.requires.lows c.before.before.before.before.before.if1.true c.before.before.before.if2.false _ c.before.before-ranges.result c.before.before-ranges.ensures.1,
+  λ k x. c.before_ranges.ensures.0 (cells k) x.ranges ∙ plain_rest x c.args.state.now c.args.row.now c.requires.lows c.if-state-m.true c.if-row-m.false,
+  λ k x. plain_prepared x c.args.state.now c.args.row.now c.requires.lows c.if-state-m.true c.if-row-m.false _ c.before_ranges.result c.before_ranges.ensures.1,
 )
 
-returns-3 : tie.Need-returns-3
-returns-3 c = (λ k x. timed_length x c.before.before.before.before.args.state.now c.before.before.before.before.args.row.now c.before.before.before.before.requires.lows c.before.before.if1.false c.if3.true, λ k x. refl)
+returns-3 : tie.Need-returns-then-row-m-2
+returns-3 c = (λ k x. timed_length x c.args.state.now c.args.row.now c.requires.lows c.if-state-m.false c.if-row-m-2.true, λ k x. refl)
 
 pub before_known_spec : {M : Type 1} → statement M
 before_known_spec =

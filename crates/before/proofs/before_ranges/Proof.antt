@@ -5,17 +5,17 @@ use borrow.Author.Rules.{rules}
 use Rattle.before.proofs.before_ranges.Statement.{statement}
 use Rattle.before.proofs.before_ranges.Tie as tie
 
-returns : tie.Need-returns
-returns c = (λ ns r. rw (sym (c.before.all-in-range.ensures ns r) ∙ not-true _ c.if1.true), refl)
+returns : tie.Need-returns-then-not-all_in_range
+returns c = (λ ns r. rw (sym (c.all_in_range.ensures ns r) ∙ not-true _ c.if-not-all_in_range.true-raw), refl)
 
-returns-2 : tie.Need-returns-2
+returns-2 : tie.Need-returns-then-not-all_in_range-2
 returns-2 c =
-    (λ ns r. rw (sym (c.before.before.before.all-in-range.ensures ns r) ∙ not-false _ c.before.before.if1.false, sym (c.before.all-in-range2.ensures ns r) ∙ not-true _ c.if2.true), refl)
+    (λ ns r. rw (sym (c.all_in_range.ensures ns r) ∙ not-false _ c.if-not-all_in_range.false-raw, sym (c.all_in_range-2.ensures ns r) ∙ not-true _ c.if-not-all_in_range-2.true-raw), refl)
 
-returns-3 : tie.Need-returns-3
+returns-3 : tie.Need-returns
 returns-3 c = (
-  λ ns r. rw (sym (c.before.before.before.before.before.before.all-in-range.ensures ns r) ∙ not-false _ c.before.before.before.before.before.if1.false, sym (c.before.before.before.before.all-in-range2.ensures ns r) ∙ not-false _ c.before.before.before.if2.false),
-  (refl, refl, c.before.take_row.ensures),
+  λ ns r. rw (sym (c.all_in_range.ensures ns r) ∙ not-false _ c.if-not-all_in_range.false-raw, sym (c.all_in_range-2.ensures ns r) ∙ not-false _ c.if-not-all_in_range-2.false-raw),
+  (refl, refl, c.take_row.ensures),
 )
 
 pub before_ranges_spec : {M : Type 1} → statement M

@@ -19,36 +19,33 @@ use borrow.Author.Rules.{rules}
 use Rattle.before.proofs.before_timed.Statement.{statement}
 use Rattle.before.proofs.before_timed.Tie as tie
 
-slice-aggregate-before-ranges : tie.Need-slice-aggregate-before-ranges
-slice-aggregate-before-ranges c = sym (length-take-le _ _ (omega (arith, c.before.before.before.requires.1.0)))
+slice-aggregate-before-ranges : tie.Need-slice_bounds-before_ranges-end
+slice-aggregate-before-ranges c = sym (length-take-le _ _ (omega (arith, c.requires.1.0)))
 
-before-ranges-requires : tie.Need-before-ranges-requires
+before-ranges-requires : tie.Need-before_ranges-tested-requires
 before-ranges-requires c κs =
-    record { among = omega (arith, length-take-le c.before.before.before.before.args.m.inputs c.before.before.before.before.args.row.now (omega (arith, c.before.before.before.before.requires.1.0)), c.before.before.before.before.requires.0.among); lows = c.before.before.before.before.requires.0.lows; highs = c.before.before.before.before.requires.0.highs; copies = c.before.before.before.before.requires.0.copies }
+    record { among = omega (arith, length-take-le c.args.m.inputs c.args.row.now (omega (arith, c.requires.1.0)), c.requires.0.among); lows = c.requires.0.lows; highs = c.requires.0.highs; copies = c.requires.0.copies }
 
-returns : tie.Need-returns
+returns : tie.Need-returns-in_default
 returns c =
-    let f : SFits w32 (get_or c.before.before.before.before.before.before.before.before.args.row.now c.before.before.before.before.before.before.before.before.args.m.inputs (pos 0)) = search rules in
-    let e : c.before.before.before.before.before.before.count.result ≡ count (at c.before.before.before.before.before.before.before.before.args.row.now c.before.before.before.before.before.before.before.before.args.m.inputs) = rw (to_z-of_z f) at c.before.before.before.before.before.before.count.ensures.0 in
-    let told = c.enum-told2.given in (
-      λ k x. ap before_answer told.1 ∙ timed_refused x c.before.before.before.before.before.before.before.before.args.state.now c.before.before.before.before.before.before.before.before.args.row.now c.before.before.before.before.before.before.before.before.requires.0.lows c.before.before.before.before.before.before.before.before.requires.1.1 c.before.before.before.before.before.before.before.before.requires.1.0 told.0.0 told.0.1.0 (sym (c.before.before.before.before-ranges.ensures.0 (cells k) x.ranges) ∙ ap before_answer told.1),
-      λ k x. timed_prepared x c.before.before.before.before.before.before.before.before.args.state.now c.before.before.before.before.before.before.before.before.args.row.now c.before.before.before.before.before.before.before.before.requires.0.lows c.before.before.before.before.before.before.before.before.requires.1.1 c.before.before.before.before.before.before.before.before.requires.1.0 c.before.before.before.before.before.before.count.result _ c.before.before.before.before-ranges.result e c.before.before.before.before.before.before.count.ensures.1 c.before.before.before.before-ranges.ensures.1,
+    let f : SFits w32 (get_or c.args.row.now c.args.m.inputs (pos 0)) = search rules in
+    let e : c.count.result ≡ count (at c.args.row.now c.args.m.inputs) = rw (to_z-of_z f) at c.count.ensures.0 in (
+      λ k x. ap before_answer c.in_default.is ∙ timed_refused x c.args.state.now c.args.row.now c.requires.0.lows c.requires.1.1 c.requires.1.0 c.in_default.field-0 c.in_default.field-1 (sym (c.before_ranges-tested.ensures.0 (cells k) x.ranges) ∙ ap before_answer c.in_default.is),
+      λ k x. timed_prepared x c.args.state.now c.args.row.now c.requires.0.lows c.requires.1.1 c.requires.1.0 c.count.result _ c.before_ranges-tested.result e c.count.ensures.1 c.before_ranges-tested.ensures.1,
     )
 
-returns-2 : tie.Need-returns-2
+returns-2 : tie.Need-returns-then-time-ge0
 returns-2 c =
-    let f : SFits w32 (get_or c.before.before.before.before.before.before.before.before.before.args.row.now c.before.before.before.before.before.before.before.before.before.args.m.inputs (pos 0)) = search rules in
-    let e : c.before.before.before.before.before.before.before.count.result ≡ count (at c.before.before.before.before.before.before.before.before.before.args.row.now c.before.before.before.before.before.before.before.before.before.args.m.inputs) = rw (to_z-of_z f) at c.before.before.before.before.before.before.before.count.ensures.0 in
-    let told = c.before.enum_told.given in (
-      λ k x. ap before_answer told.1 ∙ timed_tested x c.before.before.before.before.before.before.before.before.before.args.state.now c.before.before.before.before.before.before.before.before.before.args.row.now c.before.before.before.before.before.before.before.before.before.requires.0.lows c.before.before.before.before.before.before.before.before.before.requires.1.1 c.before.before.before.before.before.before.before.before.before.requires.1.0 true (ap non_neg (at_pos f c.if1.true)) (sym (c.before.before.before.before.before-ranges.ensures.0 (cells k) x.ranges) ∙ ap before_answer told.1),
-      λ k x. timed_prepared x c.before.before.before.before.before.before.before.before.before.args.state.now c.before.before.before.before.before.before.before.before.before.args.row.now c.before.before.before.before.before.before.before.before.before.requires.0.lows c.before.before.before.before.before.before.before.before.before.requires.1.1 c.before.before.before.before.before.before.before.before.before.requires.1.0 c.before.before.before.before.before.before.before.count.result _ c.before.before.before.before.before-ranges.result e c.before.before.before.before.before.before.before.count.ensures.1 c.before.before.before.before.before-ranges.ensures.1,
+    let f : SFits w32 (get_or c.args.row.now c.args.m.inputs (pos 0)) = search rules in
+    let e : c.count.result ≡ count (at c.args.row.now c.args.m.inputs) = rw (to_z-of_z f) at c.count.ensures.0 in (
+      λ k x. ap before_answer c.in-Code.is ∙ timed_tested x c.args.state.now c.args.row.now c.requires.0.lows c.requires.1.1 c.requires.1.0 true (ap non_neg (at_pos f c.if-time-ge0.true)) (sym (c.before_ranges-tested.ensures.0 (cells k) x.ranges) ∙ ap before_answer c.in-Code.is),
+      λ k x. timed_prepared x c.args.state.now c.args.row.now c.requires.0.lows c.requires.1.1 c.requires.1.0 c.count.result _ c.before_ranges-tested.result e c.count.ensures.1 c.before_ranges-tested.ensures.1,
     )
 
-returns-3 : tie.Need-returns-3
+returns-3 : tie.Need-returns
 returns-3 c =
-    let f : SFits w32 (get_or c.before.before.before.before.before.before.before.before.before.args.row.now c.before.before.before.before.before.before.before.before.before.args.m.inputs (pos 0)) = search rules in
-    let told = c.before.enum_told.given in (
-      λ k x. timed_tested x c.before.before.before.before.before.before.before.before.before.args.state.now c.before.before.before.before.before.before.before.before.before.args.row.now c.before.before.before.before.before.before.before.before.before.requires.0.lows c.before.before.before.before.before.before.before.before.before.requires.1.1 c.before.before.before.before.before.before.before.before.before.requires.1.0 false (ap non_neg (at_neg f c.if1.false)) (sym (c.before.before.before.before.before-ranges.ensures.0 (cells k) x.ranges) ∙ ap before_answer told.1),
+    let f : SFits w32 (get_or c.args.row.now c.args.m.inputs (pos 0)) = search rules in (
+      λ k x. timed_tested x c.args.state.now c.args.row.now c.requires.0.lows c.requires.1.1 c.requires.1.0 false (ap non_neg (at_neg f c.if-time-ge0.false)) (sym (c.before_ranges-tested.ensures.0 (cells k) x.ranges) ∙ ap before_answer c.in-Code.is),
       λ k x. refl,
     )
 

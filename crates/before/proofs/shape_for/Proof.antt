@@ -10,19 +10,18 @@ use Rattle.before.specs.Inner.Known.{ShapedFor}
 use Rattle.before.proofs.shape_for.Statement.{statement}
 use Rattle.before.proofs.shape_for.Tie as tie
 
-returns : tie.Need-returns
+returns : tie.Need-returns-in_default
 returns c =
-    let told = c.enum_told.given in
-    let b = subst (ShapedAs c.before.before.before.before.before.before.before.before.args.image.now _ _ _ _) told.1 c.before.before.before.before.shape.ensures.so in
-    subst (ShapedFor c.before.before.before.before.before.before.before.before.args.image.now _ _ _ _ _) (sym told.1) (rw b.0, b.1)
+    let b = subst (ShapedAs c.args.image.now _ _ _ _) c.in_default.is c.shape-shaped.ensures.so in
+    subst (ShapedFor c.args.image.now _ _ _ _ _) (sym c.in_default.is) (rw b.0, b.1)
 
-returns-2 : tie.Need-returns-2
+returns-2 : tie.Need-returns-then-numbers-m
 returns-2 c =
-    let x = subst (ShapedAs c.before.before.before.before.before.before.before.before.before.before.before.args.image.now _ _ _ _) c.before.before.before.shaped.given.1 c.before.before.before.before.before.before.before.shape.ensures.so in
-    (rw (x.sound, ne_eqb c.before.before.before.before.before.before.before.before.before.before.before.args.numbers (state_length (shape_in c.before.before.before.before.before.before.before.before.before.before.before.args.image.now)) (λ e. c.if1.true (e ∙ sym x.size_is))), omega arith)
+    let x = subst (ShapedAs c.args.image.now _ _ _ _) c.in-Shape.is c.shape-shaped.ensures.so in
+    (rw (x.sound, ne_eqb c.args.numbers (state_length (shape_in c.args.image.now)) (λ e. c.if-numbers-m.true (e ∙ sym x.size_is))), omega arith)
 
-returns-3 : tie.Need-returns-3
-returns-3 c = (subst (ShapedAs c.before.before.before.before.before.before.before.before.before.before.before.args.image.now _ _ _ _) c.before.before.before.shaped.given.1 c.before.before.before.before.before.before.before.shape.ensures.so, c.if1.false)
+returns-3 : tie.Need-returns
+returns-3 c = (subst (ShapedAs c.args.image.now _ _ _ _) c.in-Shape.is c.shape-shaped.ensures.so, c.if-numbers-m.false)
 
 pub shape_for_spec : {M : Type 1} → statement M
 shape_for_spec =

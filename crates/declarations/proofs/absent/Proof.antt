@@ -9,14 +9,14 @@ use borrow.Author.Rules.{rules}
 use Rattle.declarations.proofs.absent.Statement.{statement}
 use Rattle.declarations.proofs.absent.Tie as tie
 
-returns : tie.Need-returns
+returns : tie.Need-returns-in_default
 returns c =
-    absent_out _ _ _ (rw (same32 c.before.before.before.ranges.low, same32 c.before.before.before.ranges.high) at c.before.before.within.ensures) _ c.enum_told.given.1
+    absent_out _ _ _ (rw (same32 c.ranges.low, same32 c.ranges.high) at c.within.ensures) _ c.in_default.is
 
-returns-2 : tie.Need-returns-2
+returns-2 : tie.Need-returns
 returns-2 c =
-    let f : SFits w32 c.before.before.z.given.0.0 = search rules in
-    ap (parsed_of value_told) c.valued.ensures ∙ absent_in _ _ _ (rw (same32 c.before.before.before.before.before.ranges.low, same32 c.before.before.before.before.before.ranges.high) at c.before.before.before.before.within.ensures) _ f c.before.before.z.given.1
+    let f : SFits w32 c.in-Is.z = search rules in
+    ap (parsed_of value_told) c.valued.ensures ∙ absent_in _ _ _ (rw (same32 c.ranges.low, same32 c.ranges.high) at c.within.ensures) _ f c.in-Is.is
 
 pub absent_spec : {M : Type 1} → statement M
 absent_spec = tie.close (tie.spec (λ c κs. search rules) (λ c. search rules) (λ c. search rules) returns (λ c κs. search rules) returns-2)

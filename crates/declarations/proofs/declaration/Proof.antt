@@ -4,14 +4,12 @@ use borrow.Author.Rules.{rules}
 use Rattle.declarations.proofs.declaration.Statement.{statement}
 use Rattle.declarations.proofs.declaration.Tie as tie
 
-returns : tie.Need-returns
-returns c = unnamed _ _ _ _ _ _ _ _ _ _ c.before.before.before.before.before.before.new-name.ensures.0 c.enum_told.given.1
+returns : tie.Need-returns-in_default
+returns c = unnamed _ _ _ _ _ _ _ _ _ _ c.new_name-named.ensures.0 c.in_default.is
 
-returns-2 : tie.Need-returns-2
+returns-2 : tie.Need-returns
 returns-2 c =
-    let at_named = c.before.before.before.before.before in
-    let at-new-name = at_named.before.before.before.before.before.before in
-    entered _ _ _ _ _ _ _ _ _ _ at-new-name.new-name.ensures.0 at_named.named.given.1 c.before.before.range.ensures (at-new-name.new-name.ensures.1 _ at_named.named.given.1)
+    entered _ _ _ _ _ _ _ _ _ _ c.new_name-named.ensures.0 c.in-Done.is c.range.ensures (c.new_name-named.ensures.1 _ c.in-Done.is)
 
 pub declaration_spec : {M : Type 1} → statement M
 declaration_spec =

@@ -11,26 +11,23 @@ use borrow.Author.Rules.{rules}
 use Rattle.declarations.proofs.digits.Statement.{statement}
 use Rattle.declarations.proofs.digits.Tie as tie
 
-returns : tie.Need-returns
+returns : tie.Need-returns-then-kind-ne-DIGITS
 unfolding kind_number
-returns c = no_digits _ _ c.before.before.ranges.low c.before.before.ranges.high c.before.before.args.text.now c.before.before.args.negative _ _ c.before.before.args.end (kind_is_not _ digits_kind c.before.before.requires c.if1.true)
+returns c = no_digits _ _ c.ranges.low c.ranges.high c.args.text.now c.args.negative _ _ c.args.end (kind_is_not _ digits_kind c.requires c.if-kind-ne-DIGITS.true)
 
-returns-2 : tie.Need-returns-2
+returns-2 : tie.Need-returns-in_default
 unfolding kind_number
 returns-2 c =
-    let at_name = c.before.before.before.before in
-    let at-if1 = at_name.before in
-    let start = at-if1.before.before in
-    digits_out _ _ start.ranges.low start.ranges.high _ start.args.negative _ _ _ _ (kind_is _ digits_kind at-if1.if1.false) (rw at_name.name.ensures at c.before.before.before.value.ensures)
-    (rw (same32 start.ranges.low, same32 start.ranges.high) at c.before.before.signed.ensures) c.enum_told.given.1
+    digits_out _ _ c.ranges.low c.ranges.high _ c.args.negative _ _ _ _ (kind_is _ digits_kind c.if-kind-ne-DIGITS.false) (rw c.name.ensures at c.value-value.ensures)
+    (rw (same32 c.ranges.low, same32 c.ranges.high) at c.signed.ensures) c.in_default.is
 
-returns-3 : tie.Need-returns-3
+returns-3 : tie.Need-returns
 unfolding kind_number
 returns-3 c =
-    let f : SFits w32 c.before.before.z.given.0.0 = search rules in
+    let f : SFits w32 c.in-Is.z = search rules in
     ap (parsed_of value_told) c.valued.ensures ∙ rw (same32 f)
-    (digits_in _ _ c.before.before.before.before.before.before.before.before.before.ranges.low c.before.before.before.before.before.before.before.before.before.ranges.high _ c.before.before.before.before.before.before.before.before.before.args.negative _ _ _ _ (kind_is _ digits_kind c.before.before.before.before.before.before.before.if1.false) (rw c.before.before.before.before.before.before.name.ensures at c.before.before.before.before.before.value.ensures)
-    (rw (same32 c.before.before.before.before.before.before.before.before.before.ranges.low, same32 c.before.before.before.before.before.before.before.before.before.ranges.high) at c.before.before.before.before.signed.ensures) c.before.before.z.given.1)
+    (digits_in _ _ c.ranges.low c.ranges.high _ c.args.negative _ _ _ _ (kind_is _ digits_kind c.if-kind-ne-DIGITS.false) (rw c.name.ensures at c.value-value.ensures)
+    (rw (same32 c.ranges.low, same32 c.ranges.high) at c.signed.ensures) c.in-Is.is)
 
 pub digits_spec : {M : Type 1} → statement M
 digits_spec =

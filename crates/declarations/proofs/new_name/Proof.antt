@@ -11,56 +11,37 @@ use borrow.Author.Rules.{rules}
 use Rattle.declarations.proofs.new_name.Statement.{statement}
 use Rattle.declarations.proofs.new_name.Tie as tie
 
-returns : tie.Need-returns
-returns c = faulty_name _ _ _ _ _ _ _ _ _ c.enum_told.given.1 (is_fault _ _ _ c.before.before.token-at.ensures _ _ c.enum_told.given.1)
+returns : tie.Need-returns-in_default
+returns c = faulty_name _ _ _ _ _ _ _ _ _ c.in_default.is (is_fault _ _ _ c.token_at-read.ensures _ _ c.in_default.is)
 
-returns-2 : tie.Need-returns-2
+returns-2 : tie.Need-returns-then-token-ne-NAME
 unfolding kind_number
 returns-2 c =
-    let at-token-at = c.before.before.before.before.before in
-    let l = (is_token _ _ _ at-token-at.token-at.ensures _ c.before.before.before.read.given.1).1 in refuses_other _ _ _ _ _ _ _ _ _ _ (is_token _ _ _ at-token-at.token-at.ensures _ c.before.before.before.read.given.1).0 (kind_is_not _ name l.known_kind c.if1.true)
+    let l = (is_token _ _ _ c.token_at-read.ensures _ c.in-Done.is).1 in refuses_other _ _ _ _ _ _ _ _ _ _ (is_token _ _ _ c.token_at-read.ensures _ c.in-Done.is).0 (kind_is_not _ name l.known_kind c.if-token-ne-NAME.true)
 
-returns-3 : tie.Need-returns-3
+returns-3 : tie.Need-returns-in-At
 unfolding kind_number
 returns-3 c =
-    let at-if1 = c.before.before.before.before.before.before in
-    let at_read = at-if1.before.before.before in
-    refuses_known _ _ _ _ _ _ _ _ _ _ (is_token _ _ _ at_read.before.before.token-at.ensures _ at_read.read.given.1).0 (kind_is _ name at-if1.if1.false) _ (sym (c.before.before.find.ensures ∙ ap (id_of _) c.before.before.before.name.ensures) ∙ ap found_id c.enum-told2.given.1)
+    refuses_known _ _ _ _ _ _ _ _ _ _ (is_token _ _ _ c.token_at-read.ensures _ c.in-Done.is).0 (kind_is _ name c.if-token-ne-NAME.false) _ (sym (c.find-known.ensures ∙ ap (id_of _) c.name.ensures) ∙ ap found_id c.in-At.is)
 
-returns-4 : tie.Need-returns-4
+returns-4 : tie.Need-returns-then-is_over_long
 unfolding kind_number
 returns-4 c =
-    let at-find = c.before.before.before.before in
-    let at-if1 = at-find.before.before.before.before in
-    let at_read = at-if1.before.before.before in
-    refuses_long _ _ _ _ _ _ _ _ _ _ (is_token _ _ _ at_read.before.before.token-at.ensures _ at_read.read.given.1).0 (kind_is _ name at-if1.if1.false) (sym (at-find.find.ensures ∙ ap (id_of _) at-find.before.name.ensures) ∙ ap found_id c.before.before.enum-told3.given.1) (sym c.before.is-over-long.ensures ∙ c.if2.true)
+    refuses_long _ _ _ _ _ _ _ _ _ _ (is_token _ _ _ c.token_at-read.ensures _ c.in-Done.is).0 (kind_is _ name c.if-token-ne-NAME.false) (sym (c.find-known.ensures ∙ ap (id_of _) c.name.ensures) ∙ ap found_id c.in_default-known.is) (sym c.is_over_long.ensures ∙ c.if-is_over_long.true)
 
 add-requires : tie.Need-add-requires
 add-requires c κs =
-    let start = c.before.before.before.before.before.before.before.before.before.before.before.before.before.before.before.before.before.before.before.before in
-    (omega (arith, start.requires.in_starts, c.before.before.if3.true), omega (arith, start.requires.in_ends, c.before.before.if3.true))
+    (omega (arith, c.requires.in_starts, c.if-count-lt-NAME_LIMIT.true), omega (arith, c.requires.in_ends, c.if-count-lt-NAME_LIMIT.true))
 
-returns-5 : tie.Need-returns-5
+returns-5 : tie.Need-returns-then-count-lt-NAME_LIMIT
 unfolding kind_number
 returns-5 c =
-    let at-add = c.before.before.before.before.before in
-    let at-if3 = at-add.before.before.before in
-    let at-if2 = at-if3.before in
-    let at-is-over-long = at-if2.before in
-    let at-enum-told3 = at-is-over-long.before in
-    let at-find = at-enum-told3.before.before in
-    let at-if1 = at-find.before.before.before.before in
-    let at_read = at-if1.before.before.before in
-    let at-token-at = at_read.before.before in
-    takes_name _ _ _ _ _ _ _ _ _ _ (is_token _ _ _ at-token-at.token-at.ensures _ at_read.read.given.1).0 (kind_is _ name at-if1.if1.false) (sym (at-find.find.ensures ∙ ap (id_of _) at-find.before.name.ensures) ∙ ap found_id at-enum-told3.enum-told3.given.1) (sym at-is-over-long.is-over-long.ensures ∙ at-if2.if2.false) at-if3.if3.true at-token-at.before.before.before.before.requires at-add.add.ensures c.reached.ensures
+    takes_name _ _ _ _ _ _ _ _ _ _ (is_token _ _ _ c.token_at-read.ensures _ c.in-Done.is).0 (kind_is _ name c.if-token-ne-NAME.false) (sym (c.find-known.ensures ∙ ap (id_of _) c.name.ensures) ∙ ap found_id c.in_default-known.is) (sym c.is_over_long.ensures ∙ c.if-is_over_long.false) c.if-count-lt-NAME_LIMIT.true c.requires c.add.ensures c.reached.ensures
 
-returns-6 : tie.Need-returns-6
+returns-6 : tie.Need-returns
 unfolding kind_number
 returns-6 c =
-    let at-find = c.before.before.before.before.before in
-    let at-if1 = at-find.before.before.before.before in
-    let at_read = at-if1.before.before.before in
-    refuses_last _ _ _ _ _ _ _ _ _ _ (is_token _ _ _ at_read.before.before.token-at.ensures _ at_read.read.given.1).0 (kind_is _ name at-if1.if1.false) (sym (at-find.find.ensures ∙ ap (id_of _) at-find.before.name.ensures) ∙ ap found_id c.before.before.before.enum-told3.given.1) (sym c.before.before.is-over-long.ensures ∙ c.before.if2.false) c.if3.false
+    refuses_last _ _ _ _ _ _ _ _ _ _ (is_token _ _ _ c.token_at-read.ensures _ c.in-Done.is).0 (kind_is _ name c.if-token-ne-NAME.false) (sym (c.find-known.ensures ∙ ap (id_of _) c.name.ensures) ∙ ap found_id c.in_default-known.is) (sym c.is_over_long.ensures ∙ c.if-is_over_long.false) c.if-count-lt-NAME_LIMIT.false
 
 pub new_name_spec : {M : Type 1} → statement M
 new_name_spec =

@@ -21,63 +21,63 @@ highest_fits : SFits w32 highest
 highest_fits = record { sfits = omega arith }
 
 -- what each call found, as an equation of the definition
-low_fits : (c : tie.After-known-told) → SFits w32 c.before.first.given.0.0.value
+low_fits : (c : tie.In-Done) → SFits w32 c.in-Done.low.value
 low_fits c = search rules
 
-low_is : (c : tie.After-known-told) → let a = c.before.before.before.before.before.before.args in let low = c.before.first.given.0.0 in
+low_is : (c : tie.In-Done) → let a = c.args in let low = c.in-Done.low in
     bound_at (in_range lowest highest) a.text.now a.at ≡ accepted low.value low.at
-low_is c = sym c.before.before.before.bound_at.ensures ∙ ap (parsed_of value_told) c.before.first.given.1
+low_is c = sym c.bound_at-first.ensures ∙ ap (parsed_of value_told) c.in-Done.is
 
-dots_is : (c : tie.After-known-told2) → let a = c.before.before.before.before.before.before.before.before.before.before.args in
-    expected a.text.now (sign dots) c.before.before.before.before.before.first.given.0.0.at ≡ accepted tt c.before.between.given.0.0.at
+dots_is : (c : tie.In-Done-between) → let a = c.args in
+    expected a.text.now (sign dots) c.in-Done.low.at ≡ accepted tt c.in-Done-between.b.at
 unfolding kind_of
-dots_is c = sym c.before.before.before.expect.ensures ∙ ap (parsed_of nothing) c.before.between.given.1
+dots_is c = sym c.expect-between.ensures ∙ ap (parsed_of nothing) c.in-Done-between.is
 
-high_fits : (c : tie.After-known-told3) → SFits w32 c.before.second.given.0.0.value
+high_fits : (c : tie.In-Done-second) → SFits w32 c.in-Done-second.high.value
 high_fits c = search rules
 
-high_is : (c : tie.After-known-told3) → let a = c.before.before.before.before.before.before.before.before.before.before.before.before.before.before.before.args in let high = c.before.second.given.0.0 in
-    bound_at (in_range c.before.before.before.before.before.before.before.before.before.before.first.given.0.0.value highest) a.text.now c.before.before.before.before.before.before.between.given.0.0.at ≡ accepted high.value high.at
-high_is c = sym (bound_kept _ _ (low_fits c.before.before.before.before.before.before.before.before.before) highest_fits _ _ c.before.before.before.bound-at2.ensures) ∙ ap (parsed_of value_told) c.before.second.given.1
+high_is : (c : tie.In-Done-second) → let a = c.args in let high = c.in-Done-second.high in
+    bound_at (in_range c.in-Done.low.value highest) a.text.now c.in-Done-between.b.at ≡ accepted high.value high.at
+high_is c = sym (bound_kept _ _ (low_fits c.before.before.before.before.before) highest_fits _ _ c.bound_at-second.ensures) ∙ ap (parsed_of value_told) c.in-Done-second.is
 
-start_fits : (c : tie.After-known-told4) → SFits w32 c.before.third.given.0.0.value
+start_fits : (c : tie.In-Done-third) → SFits w32 c.in-Done-third.z.value
 start_fits c = search rules
 
-start_is : (c : tie.After-known-told4) → let a = c.before.before.before.before.before.before.before.before.before.before.before.before.before.before.before.before.before.before.before.before.before.args in let start = c.before.third.given.0.0 in
-    start_at a.text.now c.before.before.before.before.before.before.before.before.before.before.before.before.before.before.before.before.first.given.0.0.value c.before.before.before.before.before.before.before.second.given.0.0.value c.before.before.before.before.before.before.before.second.given.0.0.at ≡ accepted start.value start.at
+start_is : (c : tie.In-Done-third) → let a = c.args in let start = c.in-Done-third.z in
+    start_at a.text.now c.in-Done.low.value c.in-Done-second.high.value c.in-Done-second.high.at ≡ accepted start.value start.at
 start_is c =
-    sym (start_kept _ _ (low_fits c.before.before.before.before.before.before.before.before.before.before.before.before.before.before.before) (high_fits c.before.before.before.before.before.before) _ _ c.before.before.before.start_at_lem.ensures) ∙ ap (parsed_of value_told) c.before.third.given.1
+    sym (start_kept _ _ (low_fits c.before.before.before.before.before.before.before.before.before) (high_fits c.before.before.before.before) _ _ c.start_at-third.ensures) ∙ ap (parsed_of value_told) c.in-Done-third.is
 
-returns : tie.Need-returns
-returns c = refuses c.enum_told.given.1 (no_low _ _ _ _ (sym c.before.before.bound_at.ensures ∙ ap (parsed_of value_told) c.enum_told.given.1))
+returns : tie.Need-returns-in_default
+returns c = refuses c.in_default.is (no_low _ _ _ _ (sym c.bound_at-first.ensures ∙ ap (parsed_of value_told) c.in_default.is))
 
-returns-2 : tie.Need-returns-2
+returns-2 : tie.Need-returns-in_default-between
 unfolding kind_of
 returns-2 c =
-    refuses c.enum-told2.given.1
-    (no_dots _ _ _ _ (low_is c.before.before.before) _ _ (sym c.before.before.expect.ensures ∙ ap (parsed_of nothing) c.enum-told2.given.1))
+    refuses c.in_default-between.is
+    (no_dots _ _ _ _ (low_is c.before.before) _ _ (sym c.expect-between.ensures ∙ ap (parsed_of nothing) c.in_default-between.is))
 
-returns-3 : tie.Need-returns-3
+returns-3 : tie.Need-returns-in_default-second
 returns-3 c =
-    refuses c.enum-told3.given.1
-    (no_high _ _ _ _ (low_is c.before.before.before.before.before.before.before.before) _ (dots_is c.before.before.before.before) _ _
-    (sym (bound_kept _ _ (low_fits c.before.before.before.before.before.before.before.before) highest_fits _ _ c.before.before.bound-at2.ensures) ∙ ap (parsed_of value_told) c.enum-told3.given.1))
+    refuses c.in_default-second.is
+    (no_high _ _ _ _ (low_is c.before.before.before.before.before) _ (dots_is c.before.before.before) _ _
+    (sym (bound_kept _ _ (low_fits c.before.before.before.before.before) highest_fits _ _ c.bound_at-second.ensures) ∙ ap (parsed_of value_told) c.in_default-second.is))
 
-returns-4 : tie.Need-returns-4
+returns-4 : tie.Need-returns-in_default-third
 returns-4 c =
-    refuses c.enum-told4.given.1
-    (no_start _ _ _ _ (low_is c.before.before.before.before.before.before.before.before.before.before.before.before.before.before) _ (dots_is c.before.before.before.before.before.before.before.before.before.before) _ _ (high_is c.before.before.before.before.before) _ _
-    (sym (start_kept _ _ (low_fits c.before.before.before.before.before.before.before.before.before.before.before.before.before.before) (high_fits c.before.before.before.before.before) _ _ c.before.before.start_at_lem.ensures) ∙ ap (parsed_of value_told) c.enum-told4.given.1))
+    refuses c.in_default-third.is
+    (no_start _ _ _ _ (low_is c.before.before.before.before.before.before.before.before.before) _ (dots_is c.before.before.before.before.before.before.before) _ _ (high_is c.before.before.before.before) _ _
+    (sym (start_kept _ _ (low_fits c.before.before.before.before.before.before.before.before.before) (high_fits c.before.before.before.before) _ _ c.start_at-third.ensures) ∙ ap (parsed_of value_told) c.in_default-third.is))
 
-put-range-requires : tie.Need-put-range-requires
-put-range-requires c κs = c.before.before.before.before.before.before.before.before.before.before.before.before.before.before.before.before.before.before.before.before.before.before.before.before.before.requires
+put-range-requires : tie.Need-put_range-requires
+put-range-requires c κs = c.requires
 
-returns-5 : tie.Need-returns-5
+returns-5 : tie.Need-returns
 returns-5 c =
-    let w = rw (same32 (low_fits c.before.before.before.before.before.before.before.before.before.before.before.before.before.before.before.before.before.before.before.before.before.before.before), same32 (high_fits c.before.before.before.before.before.before.before.before.before.before.before.before.before.before), same32 (start_fits c.before.before.before.before.before.before.before.before)) at c.before.before.before.put-range.ensures in
+    let w = rw (same32 (low_fits c.before.before.before.before.before.before.before.before.before.before.before.before.before.before.before.before.before), same32 (high_fits c.before.before.before.before.before.before.before.before.before.before.before.before), same32 (start_fits c.before.before.before.before.before.before.before.before)) at c.put_range.ensures in
     writes c.reached.ensures (record {
       tree = _;
-      is = whole_range _ _ _ _ (low_is c.before.before.before.before.before.before.before.before.before.before.before.before.before.before.before.before.before.before.before.before.before.before.before) _ (dots_is c.before.before.before.before.before.before.before.before.before.before.before.before.before.before.before.before.before.before.before) _ _ (high_is c.before.before.before.before.before.before.before.before.before.before.before.before.before.before) _ _ (start_is c.before.before.before.before.before.before.before.before);
+      is = whole_range _ _ _ _ (low_is c.before.before.before.before.before.before.before.before.before.before.before.before.before.before.before.before.before) _ (dots_is c.before.before.before.before.before.before.before.before.before.before.before.before.before.before.before) _ _ (high_is c.before.before.before.before.before.before.before.before.before.before.before.before) _ _ (start_is c.before.before.before.before.before.before.before.before);
       ended = w.0;
       tells_it = refl;
       wrote = w.1;

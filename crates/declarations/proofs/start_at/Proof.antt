@@ -13,57 +13,43 @@ use borrow.Author.Rules.{rules}
 use Rattle.declarations.proofs.start_at.Statement.{statement}
 use Rattle.declarations.proofs.start_at.Tie as tie
 
-returns : tie.Need-returns
+returns : tie.Need-returns-in_default
 returns c =
-    let f = is_fault _ _ _ c.before.before.token-at.ensures _ _ c.enum_told.given.1 in
-    no_token_lem c.enum_told.given.1 f.1 ∙ sym (start_fault _ _ _ _ _ f.0)
+    let f = is_fault _ _ _ c.token_at-read.ensures _ _ c.in_default.is in
+    no_token_lem c.in_default.is f.1 ∙ sym (start_fault _ _ _ _ _ f.0)
 
-returns-2 : tie.Need-returns-2
+returns-2 : tie.Need-returns-in_default-given
 unfolding kind_number
 returns-2 c =
-    let at_read = c.before.before.before.before.before.before in
-    let at-token-at = at_read.before.before in
-    let start = at-token-at.before.before in
-    let b = rw (same32 start.ranges.low, same32 start.ranges.high) at c.before.before.bound_at.ensures in
-    ap (parsed_of value_told) c.enum-told2.given.1 ∙ sym (start_refused _ _ _ _ _ _ _ (is_token _ _ _ at-token-at.token-at.ensures _ at_read.read.given.1).0 (kind_is _ init_word c.before.before.before.if1.true) _ _ (sym b ∙ ap (parsed_of value_told) c.enum-told2.given.1))
+    let b = rw (same32 c.ranges.low, same32 c.ranges.high) at c.bound_at-given.ensures in
+    ap (parsed_of value_told) c.in_default-given.is ∙ sym (start_refused _ _ _ _ _ _ _ (is_token _ _ _ c.token_at-read.ensures _ c.in-Done.is).0 (kind_is _ init_word c.if-token-eq-INIT.true) _ _ (sym b ∙ ap (parsed_of value_told) c.in_default-given.is))
 
-returns-3 : tie.Need-returns-3
+returns-3 : tie.Need-returns-in_default-closed
 unfolding kind_number kind_of
 returns-3 c =
-    let at-given = c.before.before.before.before in
-    let at-bound-at = at-given.before.before in
-    let at-if1 = at-bound-at.before in
-    let at_read = at-if1.before.before.before in
-    let at-token-at = at_read.before.before in
-    let start = at-token-at.before.before in
-    let b = rw (same32 start.ranges.low, same32 start.ranges.high) at at-bound-at.bound_at.ensures in
-    let u = no_sign _ c.before.before.expect.ensures c.enum-told3.given.1 in
-    u.1 ∙ sym (start_open _ _ _ _ _ _ _ (is_token _ _ _ at-token-at.token-at.ensures _ at_read.read.given.1).0 (kind_is _ init_word at-if1.if1.true) _ _ (sym b ∙ ap (parsed_of value_told) at-given.given.given.1) _ _ u.0)
+    let b = rw (same32 c.ranges.low, same32 c.ranges.high) at c.bound_at-given.ensures in
+    let u = no_sign _ c.expect-closed.ensures c.in_default-closed.is in
+    u.1 ∙ sym (start_open _ _ _ _ _ _ _ (is_token _ _ _ c.token_at-read.ensures _ c.in-Done.is).0 (kind_is _ init_word c.if-token-eq-INIT.true) _ _ (sym b ∙ ap (parsed_of value_told) c.in-Done-given.is) _ _ u.0)
 
-returns-4 : tie.Need-returns-4
+returns-4 : tie.Need-returns-then-token-eq-INIT
 unfolding kind_number kind_of
 returns-4 c =
-    let b = rw (same32 c.before.before.before.before.before.before.before.before.before.before.before.before.before.before.before.before.before.ranges.low, same32 c.before.before.before.before.before.before.before.before.before.before.before.before.before.before.before.before.before.ranges.high) at c.before.before.before.before.before.before.before.before.before.bound_at.ensures in
-    let f : SFits w32 c.before.before.before.before.before.before.before.given.given.0.0.value = search rules in
-    ap (parsed_of value_told) c.valued.ensures ∙ rw (same32 f) (sym (start_closed _ _ _ _ _ _ _ (is_token _ _ _ c.before.before.before.before.before.before.before.before.before.before.before.before.before.before.before.token-at.ensures _ c.before.before.before.before.before.before.before.before.before.before.before.before.before.read.given.1).0 (kind_is _ init_word c.before.before.before.before.before.before.before.before.before.before.if1.true) _ _ (sym b ∙ ap (parsed_of value_told) c.before.before.before.before.before.before.before.given.given.1) _ (sym c.before.before.before.before.before.expect.ensures ∙ ap (parsed_of nothing) c.before.before.before.closed.given.1)))
+    let b = rw (same32 c.ranges.low, same32 c.ranges.high) at c.bound_at-given.ensures in
+    let f : SFits w32 c.in-Done-given.z.value = search rules in
+    ap (parsed_of value_told) c.valued.ensures ∙ rw (same32 f) (sym (start_closed _ _ _ _ _ _ _ (is_token _ _ _ c.token_at-read.ensures _ c.in-Done.is).0 (kind_is _ init_word c.if-token-eq-INIT.true) _ _ (sym b ∙ ap (parsed_of value_told) c.in-Done-given.is) _ (sym c.expect-closed.ensures ∙ ap (parsed_of nothing) c.in-Done-closed.is)))
 
-returns-5 : tie.Need-returns-5
+returns-5 : tie.Need-returns-then-token-eq-SEMICOLON
 unfolding kind_number
 returns-5 c =
-    let at_read = c.before.before.before.before.before.before in
-    let at-token-at = at_read.before.before in
-    let start = at-token-at.before.before in
-    let l = (is_token _ _ _ at-token-at.token-at.ensures _ at_read.read.given.1).1 in
-    rw (same32 start.ranges.low, same32 start.ranges.high) at c.absent.ensures
-    ∙ sym (start_absent _ _ _ _ _ _ _ (is_token _ _ _ at-token-at.token-at.ensures _ at_read.read.given.1).0 (kind_is_not _ init_word l.known_kind c.before.before.before.if1.false) (kind_is _ semicolon c.before.if2.true))
+    let l = (is_token _ _ _ c.token_at-read.ensures _ c.in-Done.is).1 in
+    rw (same32 c.ranges.low, same32 c.ranges.high) at c.absent.ensures
+    ∙ sym (start_absent _ _ _ _ _ _ _ (is_token _ _ _ c.token_at-read.ensures _ c.in-Done.is).0 (kind_is_not _ init_word l.known_kind c.if-token-eq-INIT.false) (kind_is _ semicolon c.if-token-eq-SEMICOLON.true))
 
-returns-6 : tie.Need-returns-6
+returns-6 : tie.Need-returns
 unfolding kind_number
 returns-6 c =
-    let at_read = c.before.before.before.before.before in
-    let at-token-at = at_read.before.before in
-    let l = (is_token _ _ _ at-token-at.token-at.ensures _ at_read.read.given.1).1 in
-    sym (start_other _ _ _ _ _ _ _ (is_token _ _ _ at-token-at.token-at.ensures _ at_read.read.given.1).0 (kind_is_not _ init_word l.known_kind c.before.before.if1.false) (kind_is_not _ semicolon l.known_kind c.if2.false))
+    let l = (is_token _ _ _ c.token_at-read.ensures _ c.in-Done.is).1 in
+    sym (start_other _ _ _ _ _ _ _ (is_token _ _ _ c.token_at-read.ensures _ c.in-Done.is).0 (kind_is_not _ init_word l.known_kind c.if-token-eq-INIT.false) (kind_is_not _ semicolon l.known_kind c.if-token-eq-SEMICOLON.false))
 
 pub start_at_spec : {M : Type 1} → statement M
 start_at_spec =

@@ -11,36 +11,36 @@ use Rattle.declarations.proofs.Numbers.{between}
 use Rattle.declarations.proofs.within.Statement.{statement}
 use Rattle.declarations.proofs.within.Tie as tie
 
-cast-if2 : tie.Need-overflow-cast-if2
-cast-if2 c = widens c.before.ranges.high
+cast-if2 : tie.Need-overflow_cast-high
+cast-if2 c = widens c.ranges.high
 
 -- the tests, of the numbers themselves
-above : (c : tie.Then1) → le_z c.before.args.low c.before.args.z ≡ true
-above c = rw (widened c.before.ranges.low, to_z-of_z {w = w64} c.before.ranges.z) at c.if1.true
+above : (c : tie.Then-low-z) → le_z c.args.low c.args.z ≡ true
+above c = rw (widened c.ranges.low, to_z-of_z {w = w64} c.ranges.z) at c.if-low-z.true
 
-below : (c : tie.Then2) → le_z c.before.before.args.z c.before.before.args.high ≡ true
-below c = rw (widened c.before.before.ranges.high, to_z-of_z {w = w64} c.before.before.ranges.z) at c.if2.true
+below : (c : tie.Then-z-high) → le_z c.args.z c.args.high ≡ true
+below c = rw (widened c.ranges.high, to_z-of_z {w = w64} c.ranges.z) at c.if-z-high.true
 
-fits : (c : tie.Then2) → SFits w32 c.before.before.args.z
-fits c = between _ _ _ (above c.before) (below c) c.before.before.ranges.low c.before.before.ranges.high
+fits : (c : tie.Then-z-high) → SFits w32 c.args.z
+fits c = between _ _ _ (above c.before) (below c) c.ranges.low c.ranges.high
 
-cast-t8 : tie.Need-overflow-cast-t8
-cast-t8 c = rw (to_z-of_z {w = w64} c.before.before.ranges.z) (fits c)
+cast-t8 : tie.Need-overflow_cast-result
+cast-t8 c = rw (to_z-of_z {w = w64} c.ranges.z) (fits c)
 
-returns : tie.Need-returns
+returns : tie.Need-returns-then-z-high
 unfolding in_range
-returns c = rw (narrowed32 (fits c) c.before.before.ranges.z, above c.before, below c)
+returns c = rw (narrowed32 (fits c) c.ranges.z, above c.before, below c)
 
-returns-2 : tie.Need-returns-2
+returns-2 : tie.Need-returns-else-z-high
 unfolding in_range
 returns-2 c =
-    let q : le_z c.before.before.args.z c.before.before.args.high ≡ false = rw (widened c.before.before.ranges.high, to_z-of_z {w = w64} c.before.before.ranges.z) at c.if2.false in
+    let q : le_z c.args.z c.args.high ≡ false = rw (widened c.ranges.high, to_z-of_z {w = w64} c.ranges.z) at c.if-z-high.false in
     rw (above c.before, q)
 
-returns-3 : tie.Need-returns-3
+returns-3 : tie.Need-returns-else-low-z
 unfolding in_range
 returns-3 c =
-    let q : le_z c.before.args.low c.before.args.z ≡ false = rw (widened c.before.ranges.low, to_z-of_z {w = w64} c.before.ranges.z) at c.if1.false in
+    let q : le_z c.args.low c.args.z ≡ false = rw (widened c.ranges.low, to_z-of_z {w = w64} c.ranges.z) at c.if-low-z.false in
     rw q
 
 pub within_spec : {M : Type 1} → statement M

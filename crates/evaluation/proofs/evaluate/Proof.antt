@@ -13,61 +13,59 @@ use Rattle.evaluation.proofs.Going.{Going, begins, ended, broken, taken, refused
 use Rattle.evaluation.proofs.evaluate.Statement.{statement}
 use Rattle.evaluation.proofs.evaluate.Tie as tie
 
-abbrev invariant_loop : tie.invariant_loop
+abbrev invariant_loop : tie.invariant-loop-at
 invariant_loop code prev cur vals₀ k₀ at₀ vals k at = Going code prev cur vals₀ k vals at
 
-abbrev decreases_loop : tie.decreases_loop
+abbrev decreases_loop : tie.decreases-loop-at
 decreases_loop code prev cur vals₀ k₀ at₀ vals k at = length code - at
 
-loop-holds : tie.Need-loop-init invariant_loop decreases_loop
-loop-holds c = begins c.before.args.code.now c.before.args.prev.now c.before.args.cur.now c.before.args.vals.now _ refl refl refl c.before.requires
+loop-holds : tie.Need-loop-at-init invariant_loop decreases_loop
+loop-holds c = begins c.args.code.now c.args.prev.now c.args.cur.now c.args.vals.now _ refl refl refl c.requires
 
-same_length : tie.Need-same-length invariant_loop decreases_loop
-same_length c = let d = c.before.before.before.before.loop.invariant.deep in search rules
+same_length : tie.Need-shape_of-vals-in_default invariant_loop decreases_loop
+same_length c = let d = c.loop-at.invariant.deep in search rules
 
-returns : tie.Need-returns invariant_loop decreases_loop
-returns c = λ x d l. absurd (broken (c.before.before.before.before.loop.invariant.goes x d l) c.before.before.before.loop-test.true (sym (ap single_read c.enum_told.given.1) ∙ c.before.before.read.ensures.0))
+returns : tie.Need-returns-in_default invariant_loop decreases_loop
+returns c = λ x d l. absurd (broken (c.loop-at.invariant.goes x d l) c.loop-at-test.true (sym (ap single_read c.in_default.is) ∙ c.read.ensures.0))
 
 work-requires : tie.Need-work-requires invariant_loop decreases_loop
-work-requires c κs = (c.before.before.before.before.before.before.loop.invariant.stack, (subst (SingleWithin (length c.before.before.before.before.before.before.before.before.args.code.now) c.before.before.before.before.before.before.loop.at) c.before.before.op.given.1 c.before.before.before.before.read.ensures.1).operand)
+work-requires c κs = (c.loop-at.invariant.stack, (subst (SingleWithin (length c.args.code.now) c.loop-at.at) c.in-Instruction.is c.read.ensures.1).operand)
 
-same-length-2 : tie.Need-same-length-2 invariant_loop decreases_loop
-same-length-2 c = let d = c.before.before.before.before.before.before.before.before.before.before.loop.invariant.deep in search rules
+same-length-2 : tie.Need-shape_of-vals-in_default-work invariant_loop decreases_loop
+same-length-2 c = let d = c.loop-at.invariant.deep in search rules
 
-returns-2 : tie.Need-returns-2 invariant_loop decreases_loop
+returns-2 : tie.Need-returns-in_default-work invariant_loop decreases_loop
 returns-2 c =
-    let f = c.before.before.before.before.before.before.op.given in
-    λ x d l. (_, refused (taken (c.before.before.before.before.before.before.before.before.before.before.loop.invariant.goes x d l) c.before.before.before.before.before.before.before.before.before.loop-test.true (instruction_of f.0.0 f.0.1.0) f.0.1.1.0 (sym (ap single_read f.1) ∙ c.before.before.before.before.before.before.before.before.read.ensures.0)) l c.before.before.before.work.result c.before.before.before.work.new.1.1.0 c.before.before.before.work.ensures.0 _ c.enum-told2.given.1)
+    λ x d l. (_, refused (taken (c.loop-at.invariant.goes x d l) c.loop-at-test.true (instruction_of c.in-Instruction.op c.in-Instruction.n) c.in-Instruction.next (sym (ap single_read c.in-Instruction.is) ∙ c.read.ensures.0)) l c.work.result c.work.new.vals c.work.ensures.0 _ c.in_default-work.is)
 
-loop-less : tie.Need-loop-smaller invariant_loop decreases_loop
+loop-less : tie.Need-loop-at-smaller invariant_loop decreases_loop
 loop-less c =
-    let b = subst (SingleWithin (length c.before.before.before.before.before.before.before.before.before.before.before.before.before.args.code.now) c.before.before.before.before.before.before.before.before.before.before.before.loop.at) c.before.before.before.before.before.before.before.op.given.1 c.before.before.before.before.before.before.before.before.before.read.ensures.1 in
-    omega (arith, b.behind, c.before.before.before.before.before.before.before.before.before.before.loop-test.true)
+    let b = subst (SingleWithin (length c.args.code.now) c.loop-at.at) c.in-Instruction.is c.read.ensures.1 in
+    omega (arith, b.behind, c.loop-at-test.true)
 
-loop-again : tie.Need-loop-preserved invariant_loop decreases_loop
+loop-again : tie.Need-loop-at-preserved invariant_loop decreases_loop
 loop-again c =
-    let b = subst (SingleWithin (length c.before.before.before.before.before.before.before.before.before.before.before.before.before.args.code.now) c.before.before.before.before.before.before.before.before.before.before.before.loop.at) c.before.before.before.before.before.before.before.op.given.1 c.before.before.before.before.before.before.before.before.before.read.ensures.1 in
-    let i = c.before.before.before.before.before.before.before.before.before.before.before.loop.invariant in
-    let f = c.before.before.before.before.before.before.before.op.given in
-    let few = subst Few c.before.t.given.1 c.before.before.before.before.work.ensures.1 in
-    let deep = c.before.before.before.before.work.auto.1.1.0 in
+    let b = subst (SingleWithin (length c.args.code.now) c.loop-at.at) c.in-Instruction.is c.read.ensures.1 in
+    let i = c.loop-at.invariant in
+    let few = subst Few c.in-Next.is c.work.ensures.1 in
+    let deep = c.work.auto.vals in
     record {
       stack = record { few = few; room = omega (arith, i.stack.room, deep) };
       deep = deep ∙ i.deep;
       within = b.inside;
-      goes = λ x d l. again (taken (i.goes x d l) c.before.before.before.before.before.before.before.before.before.before.loop-test.true (instruction_of f.0.0 f.0.1.0) f.0.1.1.0 (sym (ap single_read f.1) ∙ c.before.before.before.before.before.before.before.before.before.read.ensures.0)) l c.before.before.before.before.work.result c.before.before.before.before.work.new.1.1.0 c.before.before.before.before.work.ensures.0 c.before.t.given.0.0 c.before.t.given.1;
+      goes = λ x d l. again (taken (i.goes x d l) c.loop-at-test.true (instruction_of c.in-Instruction.op c.in-Instruction.n) c.in-Instruction.next (sym (ap single_read c.in-Instruction.is) ∙ c.read.ensures.0)) l c.work.result c.work.new.vals c.work.ensures.0 c.in-Next.t c.in-Next.is;
     }
 
 answer-requires : tie.Need-answer-requires invariant_loop decreases_loop
-answer-requires c κs = (c.before.before.loop.invariant.stack.room, c.before.before.loop.invariant.stack.few)
+answer-requires c κs = (c.loop-at.invariant.stack.room, c.loop-at.invariant.stack.few)
 
-same-length-3 : tie.Need-same-length-3 invariant_loop decreases_loop
-same-length-3 c = let d = c.before.before.before.loop.invariant.deep in search rules
+same-length-3 : tie.Need-shape_of-vals invariant_loop decreases_loop
+same-length-3 c = let d = c.loop-at.invariant.deep in search rules
 
-returns-3 : tie.Need-returns-3 invariant_loop decreases_loop
+returns-3 : tie.Need-returns invariant_loop decreases_loop
 returns-3 c =
     λ x d l.
-    let e = ended (c.before.before.before.loop.invariant.goes x d l) c.before.before.loop-test.false in
+    let e = ended (c.loop-at.invariant.goes x d l) c.loop-at-test.false in
     subst (Tells c.answer.result) (sym e.is) (c.answer.ensures e.truth e.top)
 
 pub evaluate_spec : {M : Type 1} → statement M

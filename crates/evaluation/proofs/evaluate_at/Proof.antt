@@ -6,9 +6,9 @@ use Rattle.evaluation.proofs.evaluate_at.Tie as tie
 
 returns : tie.Need-returns
 returns c =
-    let a = c.before.before.before.before.before.before.args in
-    let p = c.before.before.before.before.before.before.requires in
-    at_place a.code.now a.trace.now a.names a.before a.at c.before.evaluate.result p.1.0 p.1.1 c.before.evaluate.ensures
+    let a = c.args in
+    let p = c.requires in
+    at_place a.code.now a.trace.now a.names a.before a.at c.evaluate.result p.1.0 p.1.1 c.evaluate.ensures
 
 pub evaluate_at_spec : {M : Type 1} → statement M
 evaluate_at_spec =

@@ -8,14 +8,14 @@ use Rattle.evaluation.proofs.Walking.{yes_told, no_told, fault_told, after_yes}
 use Rattle.evaluation.proofs.is_kept.Statement.{statement}
 use Rattle.evaluation.proofs.is_kept.Tie as tie
 
-returns : tie.Need-returns
-returns c = λ o p h k. c.holds.ensures p k ∙ after_yes p ∙ sym (ap (λ (q : Outcome Bool). is_yes (implied q p)) (yes_told c.before.enum_told.given.1 o h))
+returns : tie.Need-returns-in-Yes
+returns c = λ o p h k. c.holds.ensures p k ∙ after_yes p ∙ sym (ap (λ (q : Outcome Bool). is_yes (implied q p)) (yes_told c.in-Yes.is o h))
 
-returns-2 : tie.Need-returns-2
-returns-2 c = λ o p h k. c.is_fault.ensures p k ∙ sym (ap (λ (q : Outcome Bool). is_yes (implied q p)) (no_told c.before.enum-told2.given.1 o h))
+returns-2 : tie.Need-returns-in-No
+returns-2 c = λ o p h k. c.is_fault.ensures p k ∙ sym (ap (λ (q : Outcome Bool). is_yes (implied q p)) (no_told c.in-No.is o h))
 
-returns-3 : tie.Need-returns-3
-returns-3 c = λ o p h k. sym (ap (λ (q : Outcome Bool). is_yes (implied q p)) (fault_told c.enum-told3.given.1 o h).1)
+returns-3 : tie.Need-returns-in-Fault
+returns-3 c = λ o p h k. sym (ap (λ (q : Outcome Bool). is_yes (implied q p)) (fault_told c.in-Fault.is o h).1)
 
 pub is_kept_spec : {M : Type 1} → statement M
 is_kept_spec =

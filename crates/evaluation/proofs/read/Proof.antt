@@ -6,17 +6,17 @@ use Rattle.bytecode.proofs.Fetching.{single_end, single_alone, single_malformed,
 use Rattle.evaluation.proofs.read.Statement.{statement}
 use Rattle.evaluation.proofs.read.Tie as tie
 
-returns-2 : tie.Need-returns-2
-returns-2 c = single_malformed _ _ c.before.before.before.before.before.before.if1.false (sym c.before.before.before.before.has-operand.ensures ∙ c.before.before.before.if2.true) (sym c.before.before.unsigned-at.ensures ∙ ap unsigned_read c.enum_told.given.1)
+returns-2 : tie.Need-returns-in_default
+returns-2 c = single_malformed _ _ c.if-code-at.false (sym c.has_operand.ensures ∙ c.if-has_operand.true) (sym c.unsigned_at.ensures ∙ ap unsigned_read c.in_default.is)
 
-returns-3 : tie.Need-returns-3
-returns-3 c = single_number _ _ c.before.before.before.before.before.before.before.if1.false _ _ (sym c.before.before.before.before.before.has-operand.ensures ∙ c.before.before.before.before.if2.true) (sym c.before.before.before.unsigned-at.ensures ∙ ap unsigned_read c.before.n.given.1)
+returns-3 : tie.Need-returns-then-has_operand
+returns-3 c = single_number _ _ c.if-code-at.false _ _ (sym c.has_operand.ensures ∙ c.if-has_operand.true) (sym c.unsigned_at.ensures ∙ ap unsigned_read c.in-Number.is)
 
-returns-4 : tie.Need-returns-4
-returns-4 c = single_alone _ _ c.before.before.before.if1.false (sym c.before.has-operand.ensures ∙ c.if2.false)
+returns-4 : tie.Need-returns
+returns-4 c = single_alone _ _ c.if-code-at.false (sym c.has_operand.ensures ∙ c.if-has_operand.false)
 
 pub read_spec : {M : Type 1} → statement M
 read_spec =
     tie.close
-    (tie.spec (λ c. single_end _ _ c.if1.true) (λ c. search rules) (λ c. search rules) (λ c κs. search rules) (λ c κs. search rules) (λ c. search rules)
+    (tie.spec (λ c. single_end _ _ c.if-code-at.true) (λ c. search rules) (λ c. search rules) (λ c κs. search rules) (λ c κs. search rules) (λ c. search rules)
     (λ c. search rules) returns-2 returns-3 returns-4)

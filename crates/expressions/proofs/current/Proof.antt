@@ -11,45 +11,31 @@ use Rattle.expressions.proofs.Ways.{current_long, current_unknown, current_early
 use Rattle.expressions.proofs.current.Statement.{statement}
 use Rattle.expressions.proofs.current.Tie as tie
 
-returns : tie.Need-returns
-returns c = refuses (refused_now (current_long _ _ _ (sym c.before.is-over-long.ensures ∙ c.if1.true)))
+returns : tie.Need-returns-then-is_over_long
+returns c = refuses (refused_now (current_long _ _ _ (sym c.is_over_long.ensures ∙ c.if-is_over_long.true)))
 
-returns-2 : tie.Need-returns-2
+returns-2 : tie.Need-returns-in_default
 returns-2 c =
-    let at-if1 = c.before.before.before.before in
-    refuses (refused_now (current_unknown _ _ _ (sym at-if1.before.is-over-long.ensures ∙ at-if1.if1.false) (sym (c.before.before.find.ensures ∙ ap (id_of _) c.before.before.before.name.ensures) ∙ ap found_id c.enum_told.given.1)))
+    refuses (refused_now (current_unknown _ _ _ (sym c.is_over_long.ensures ∙ c.if-is_over_long.false) (sym (c.find-found.ensures ∙ ap (id_of _) c.name.ensures) ∙ ap found_id c.in_default.is)))
 
-is-known-requires : tie.Need-is-known-requires
+is-known-requires : tie.Need-is_known-requires
 is-known-requires c κs =
-    let at-find = c.before.before.before in
-    let start = at-find.before.before.before.before.before.before.before.before in
-    (id_below _ start.requires.0 _ (sym (at-find.find.ensures ∙ ap (id_of _) at-find.before.name.ensures) ∙ ap found_id c.before.found.given.1), start.requires.0.few)
+    (id_below _ c.requires.0 _ (sym (c.find-found.ensures ∙ ap (id_of _) c.name.ensures) ∙ ap found_id c.in-At.is), c.requires.0.few)
 
 instruction-requires : tie.Need-instruction-requires
 instruction-requires c κs =
-    let at-found = c.before.before.before.before in
-    let at-find = at-found.before.before in
-    let start = at-find.before.before.before.before.before.before.before.before in
-    (start.requires.1, omega (arith, id_few _ start.requires.0 _ (sym (at-find.find.ensures ∙ ap (id_of _) at-find.before.name.ensures) ∙ ap found_id at-found.found.given.1)))
+    (c.requires.1, omega (arith, id_few _ c.requires.0 _ (sym (c.find-found.ensures ∙ ap (id_of _) c.name.ensures) ∙ ap found_id c.in-At.is)))
 
-returns-3 : tie.Need-returns-3
+returns-3 : tie.Need-returns-then-is_known
 returns-3 c =
-    let at-if2 = c.before.before.before.before in
-    let at-is-known = at-if2.before in
-    let at-found = at-is-known.before.before in
-    let at-find = at-found.before.before in
-    let at-if1 = at-find.before.before in
-    let e = sym (at-find.find.ensures ∙ ap (id_of _) at-find.before.name.ensures) ∙ ap found_id at-found.found.given.1 in
-    same_part (current-known _ _ _ (sym at-if1.before.is-over-long.ensures ∙ at-if1.if1.false) _ e (sym at-is-known.is_known.ensures ∙ at-if2.if2.true))
-    (recoded (current _) c.before.before.instruction.ensures (current-code _))
+    let e = sym (c.find-found.ensures ∙ ap (id_of _) c.name.ensures) ∙ ap found_id c.in-At.is in
+    same_part (current-known _ _ _ (sym c.is_over_long.ensures ∙ c.if-is_over_long.false) _ e (sym c.is_known.ensures ∙ c.if-is_known.true))
+    (recoded (current _) c.instruction.ensures (current-code _))
 
-returns-4 : tie.Need-returns-4
+returns-4 : tie.Need-returns
 returns-4 c =
-    let at-found = c.before.before.before in
-    let at-find = at-found.before.before in
-    let at-if1 = at-find.before.before in
-    let e = sym (at-find.find.ensures ∙ ap (id_of _) at-find.before.name.ensures) ∙ ap found_id at-found.found.given.1 in
-    refuses (refused_now (current_early _ _ _ (sym at-if1.before.is-over-long.ensures ∙ at-if1.if1.false) _ e (sym c.before.is_known.ensures ∙ c.if2.false)))
+    let e = sym (c.find-found.ensures ∙ ap (id_of _) c.name.ensures) ∙ ap found_id c.in-At.is in
+    refuses (refused_now (current_early _ _ _ (sym c.is_over_long.ensures ∙ c.if-is_over_long.false) _ e (sym c.is_known.ensures ∙ c.if-is_known.false)))
 
 pub current_spec : {M : Type 1} → statement M
 current_spec =

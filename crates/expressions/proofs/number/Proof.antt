@@ -15,17 +15,13 @@ use Rattle.expressions.proofs.Ways.{number_large, number_fits, constant_code}
 use Rattle.expressions.proofs.number.Statement.{statement}
 use Rattle.expressions.proofs.number.Tie as tie
 
-returns : tie.Need-returns
-returns c = refuses (refused_now (number_large _ _ _ _ (c.before.value.ensures ∙ ap (λ (l : List ℕ). min (value_of l) 4294967296) c.before.before.name.ensures) c.if1.true))
+returns : tie.Need-returns-then-v-gt-NUMBER_LIMIT
+returns c = refuses (refused_now (number_large _ _ _ _ (c.value-v.ensures ∙ ap (λ (l : List ℕ). min (value_of l) 4294967296) c.name.ensures) c.if-v-gt-NUMBER_LIMIT.true))
 
-returns-2 : tie.Need-returns-2
+returns-2 : tie.Need-returns
 returns-2 c =
-    let at-zigzag = c.before.before.before.before in
-    let at-if1 = at-zigzag.before in
-    let at_value = at-if1.before in
-    let at_name = at_value.before in
-    same_part (number_fits _ _ _ _ (at_value.value.ensures ∙ ap (λ (l : List ℕ). min (value_of l) 4294967296) at_name.name.ensures) at-if1.if1.false)
-    (recoded (constant (pos _)) c.before.before.instruction.ensures (constant_code at_value.value.result (at-zigzag.zigzag.ensures.0 ∙ ap zigzag (to_z_pos w32 (omega (arith, at-if1.if1.false))))))
+    same_part (number_fits _ _ _ _ (c.value-v.ensures ∙ ap (λ (l : List ℕ). min (value_of l) 4294967296) c.name.ensures) c.if-v-gt-NUMBER_LIMIT.false)
+    (recoded (constant (pos _)) c.instruction.ensures (constant_code c.value-v.result (c.zigzag.ensures.0 ∙ ap zigzag (to_z_pos w32 (omega (arith, c.if-v-gt-NUMBER_LIMIT.false))))))
 
 pub number_spec : {M : Type 1} → statement M
 number_spec =

@@ -11,27 +11,21 @@ use Rattle.expressions.proofs.Ways.{previous-long, previous_unknown, previous_kn
 use Rattle.expressions.proofs.previous.Statement.{statement}
 use Rattle.expressions.proofs.previous.Tie as tie
 
-returns : tie.Need-returns
-returns c = refuses (refused_now (previous-long _ _ _ (sym c.before.is-over-long.ensures ∙ c.if1.true)))
+returns : tie.Need-returns-then-is_over_long
+returns c = refuses (refused_now (previous-long _ _ _ (sym c.is_over_long.ensures ∙ c.if-is_over_long.true)))
 
-returns-2 : tie.Need-returns-2
+returns-2 : tie.Need-returns-in_default
 returns-2 c =
-    let at-if1 = c.before.before.before.before in
-    refuses (refused_now (previous_unknown _ _ _ (sym at-if1.before.is-over-long.ensures ∙ at-if1.if1.false) (sym (c.before.before.find.ensures ∙ ap (id_of _) c.before.before.before.name.ensures) ∙ ap found_id c.enum_told.given.1)))
+    refuses (refused_now (previous_unknown _ _ _ (sym c.is_over_long.ensures ∙ c.if-is_over_long.false) (sym (c.find-found.ensures ∙ ap (id_of _) c.name.ensures) ∙ ap found_id c.in_default.is)))
 
 instruction-requires : tie.Need-instruction-requires
 instruction-requires c κs =
-    let at-find = c.before.before.before.before in
-    let start = at-find.before.before.before.before.before.before.before.before in
-    (start.requires.1.1, omega (arith, id_few _ start.requires.0 _ (sym (at-find.find.ensures ∙ ap (id_of _) at-find.before.name.ensures) ∙ ap found_id c.before.before.found.given.1)))
+    (c.requires.1.1, omega (arith, id_few _ c.requires.0 _ (sym (c.find-found.ensures ∙ ap (id_of _) c.name.ensures) ∙ ap found_id c.in-At.is)))
 
-returns-3 : tie.Need-returns-3
+returns-3 : tie.Need-returns
 returns-3 c =
-    let at-found = c.before.before.before.before.before in
-    let at-find = at-found.before.before in
-    let at-if1 = at-find.before.before in
-    same_part (previous_known _ _ _ (sym at-if1.before.is-over-long.ensures ∙ at-if1.if1.false) _ (sym (at-find.find.ensures ∙ ap (id_of _) at-find.before.name.ensures) ∙ ap found_id at-found.found.given.1))
-    (recoded (previous _) c.before.before.instruction.ensures (previous-code _))
+    same_part (previous_known _ _ _ (sym c.is_over_long.ensures ∙ c.if-is_over_long.false) _ (sym (c.find-found.ensures ∙ ap (id_of _) c.name.ensures) ∙ ap found_id c.in-At.is))
+    (recoded (previous _) c.instruction.ensures (previous-code _))
 
 pub previous_spec : {M : Type 1} → statement M
 previous_spec =

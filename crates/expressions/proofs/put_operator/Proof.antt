@@ -4,8 +4,8 @@ use Rattle.expressions.proofs.Chain.{no_operator, one_operator}
 use Rattle.expressions.proofs.put_operator.Statement.{statement}
 use Rattle.expressions.proofs.put_operator.Tie as tie
 
-returns-2 : tie.Need-returns-2
-returns-2 c = one_operator _ _ c.before.before.before.before.if1.false c.before.before.put_byte.ensures
+returns-2 : tie.Need-returns
+returns-2 c = one_operator _ _ c.if-code-eq0.false c.put_byte.ensures
 
 pub put_operator_spec : {M : Type 1} → statement M
-put_operator_spec = tie.close (tie.spec (λ c. no_operator _ c.if1.true) (λ c κs. search rules) (λ c. search rules) returns-2)
+put_operator_spec = tie.close (tie.spec (λ c. no_operator _ c.if-code-eq0.true) (λ c κs. search rules) (λ c. search rules) returns-2)

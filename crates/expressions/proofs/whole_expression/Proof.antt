@@ -6,7 +6,7 @@ use Rattle.expressions.proofs.whole_expression.Tie as tie
 
 returns : tie.Need-returns
 unfolding whole_expression
-returns c = c.before.before.expression.ensures
+returns c = c.expression.ensures
 
 pub whole_expression_spec : {M : Type 1} → statement M
 whole_expression_spec = tie.close (tie.spec (λ c κs. search rules) (λ c. search rules) returns)

@@ -5,4 +5,4 @@ use Rattle.fused.proofs.broken.Statement.{statement}
 use Rattle.fused.proofs.broken.Tie as tie
 
 pub broken_spec : {M : Type 1} → statement M
-broken_spec = tie.close (tie.spec (λ c. search rules) (λ c. search rules) (λ c. (refl, c.if1.false)))
+broken_spec = tie.close (tie.spec (λ c. search rules) (λ c. search rules) (λ c. (refl, c.if-code-at-eq23.false)))

@@ -7,18 +7,18 @@ use borrow.Author.Rules.{rules}
 use Rattle.lifecycle.proofs.begin.Statement.{statement}
 use Rattle.lifecycle.proofs.begin.Tie as tie
 
-returns : tie.Need-returns
-returns c = (begin_elsewhere c.before.before.args.image.now c.before.before.args.state.now c.before.before.args.paused.now c.if1.true, tt)
+returns : tie.Need-returns-then-paused-ne-PAUSED_LENGTH
+returns c = (begin_elsewhere c.args.image.now c.args.state.now c.args.paused.now c.if-paused-ne-PAUSED_LENGTH.true, tt)
 
-returns-2 : tie.Need-returns-2
-returns-2 c = (begin_early c.before.before.before.before.before.args.image.now c.before.before.before.before.before.args.state.now c.before.before.before.before.before.args.paused.now c.before.before.before.if1.false c.before.checkpoint-in.result c.before.checkpoint-in.ensures c.if2.true, omega arith)
+returns-2 : tie.Need-returns-then-phase-ne-NO_SCAN
+returns-2 c = (begin_early c.args.image.now c.args.state.now c.args.paused.now c.if-paused-ne-PAUSED_LENGTH.false c.checkpoint_in-p.result c.checkpoint_in-p.ensures c.if-phase-ne-NO_SCAN.true, omega arith)
 
-returns-3 : tie.Need-returns-3
+returns-3 : tie.Need-returns-then-w-eq0
 returns-3 c =
-    (begin_idle c.before.before.before.before.before.before.before.before.args.image.now c.before.before.before.before.before.before.before.before.args.state.now c.before.before.before.before.before.before.before.before.args.paused.now c.before.before.before.before.before.before.if1.false c.before.before.before.before.checkpoint-in.result c.before.before.before.before.checkpoint-in.ensures c.before.before.before.if2.false c.before.waiting.result c.before.waiting.ensures c.if3.true, tt)
+    (begin_idle c.args.image.now c.args.state.now c.args.paused.now c.if-paused-ne-PAUSED_LENGTH.false c.checkpoint_in-p.result c.checkpoint_in-p.ensures c.if-phase-ne-NO_SCAN.false c.waiting-w.result c.waiting-w.ensures c.if-w-eq0.true, tt)
 
-begin-row-requires : tie.Need-begin-row-requires
-begin-row-requires c κs = record { sized = c.before.before.before.before.before.before.before.if1.false; no_scan = sym (ap (λ (p : Checkpoint). p.phase) c.before.before.before.before.before.checkpoint-in.ensures) ∙ c.before.before.before.before.if2.false; waits = c.before.before.waiting.ensures; some = c.before.if3.false }
+begin-row-requires : tie.Need-begin_row-requires
+begin-row-requires c κs = record { sized = c.if-paused-ne-PAUSED_LENGTH.false; no_scan = sym (ap (λ (p : Checkpoint). p.phase) c.checkpoint_in-p.ensures) ∙ c.if-phase-ne-NO_SCAN.false; waits = c.waiting-w.ensures; some = c.if-w-eq0.false }
 
 pub begin_spec : {M : Type 1} → statement M
 begin_spec =

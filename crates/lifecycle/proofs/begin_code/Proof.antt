@@ -7,19 +7,19 @@ use borrow.Author.Rules.{rules}
 use Rattle.lifecycle.proofs.begin_code.Statement.{statement}
 use Rattle.lifecycle.proofs.begin_code.Tie as tie
 
-slice-aggregate-keep-start : tie.Need-slice-aggregate-keep-start
-slice-aggregate-keep-start c = sym (length-take-le (length c.before.before.args.state.now) c.before.before.args.low.now (omega (arith, c.before.before.requires.starts, c.before.before.requires.lows)))
+slice-aggregate-keep-start : tie.Need-slice_bounds-keep_start-end
+slice-aggregate-keep-start c = sym (length-take-le (length c.args.state.now) c.args.low.now (omega (arith, c.requires.starts, c.requires.lows)))
 
-slice-aggregate-keep-start-2 : tie.Need-slice-aggregate-keep-start-2
-slice-aggregate-keep-start-2 c = sym (length-take-le (length c.before.before.before.args.state.now) c.before.before.before.args.high.now (omega (arith, c.before.before.before.requires.starts, c.before.before.before.requires.highs)))
+slice-aggregate-keep-start-2 : tie.Need-slice_bounds-keep_start-end-2
+slice-aggregate-keep-start-2 c = sym (length-take-le (length c.args.state.now) c.args.high.now (omega (arith, c.requires.starts, c.requires.highs)))
 
-slice-aggregate-keep-start-3 : tie.Need-slice-aggregate-keep-start-3
-slice-aggregate-keep-start-3 c = sym (length-take-le (length c.before.before.before.before.args.state.now) c.before.before.before.before.args.work.now (omega (arith, c.before.before.before.before.requires.starts, c.before.before.before.before.requires.copies)))
+slice-aggregate-keep-start-3 : tie.Need-slice_bounds-keep_start-end-3
+slice-aggregate-keep-start-3 c = sym (length-take-le (length c.args.state.now) c.args.work.now (omega (arith, c.requires.starts, c.requires.copies)))
 
-keep-start-requires : tie.Need-keep-start-requires
+keep-start-requires : tie.Need-keep_start-requires
 keep-start-requires c κs =
-    let y = c.before.before.before.before.requires in
-    let n = length c.before.before.before.before.args.state.now in
+    let y = c.requires in
+    let n = length c.args.state.now in
     record {
       cells = y.cells;
       images = y.images;
@@ -28,9 +28,9 @@ keep-start-requires c κs =
       few = y.few;
       short = y.short;
       starts = y.starts;
-      lows = omega (arith, length-take-le n c.before.before.before.before.args.low.now (omega (arith, y.starts, y.lows)), y.starts);
-      highs = omega (arith, length-take-le n c.before.before.before.before.args.high.now (omega (arith, y.starts, y.highs)), y.starts);
-      current = omega (arith, length-take-le n c.before.before.before.before.args.work.now (omega (arith, y.starts, y.copies)), y.starts);
+      lows = omega (arith, length-take-le n c.args.low.now (omega (arith, y.starts, y.lows)), y.starts);
+      highs = omega (arith, length-take-le n c.args.high.now (omega (arith, y.starts, y.highs)), y.starts);
+      current = omega (arith, length-take-le n c.args.work.now (omega (arith, y.starts, y.copies)), y.starts);
     }
 
 pub begin_code_spec : {M : Type 1} → statement M

@@ -9,49 +9,46 @@ use borrow.Author.Rules.{rules}
 use Rattle.lifecycle.proofs.begin_in.Statement.{statement}
 use Rattle.lifecycle.proofs.begin_in.Tie as tie
 
-add-end : tie.Need-overflow-add-end
-add-end c = record { fits = omega (arith, c.before.requires.1.waits, waiting_most c.before.args.paused.now) }
+add-end : tie.Need-overflow_add-end
+add-end c = record { fits = omega (arith, c.requires.1.waits, waiting_most c.args.paused.now) }
 
-part-before-code-end : tie.Need-slice-bounds-before-code-end
-part-before-code-end c = omega (arith, c.before.before.requires.1.waits, waiting_most c.before.before.args.paused.now, c.before.before.requires.1.sized)
+part-before-code-end : tie.Need-slice_bounds-before_code-end
+part-before-code-end c = omega (arith, c.requires.1.waits, waiting_most c.args.paused.now, c.requires.1.sized)
 
-before-code-requires : tie.Need-before-code-requires
+before-code-requires : tie.Need-before_code-tried-requires
 before-code-requires c κs =
-    let y = c.before.before.before.before.before.before.requires.0 in
+    let y = c.requires.0 in
     record { lows = λ h. omega (arith, h, y.lows); highs = λ h. omega (arith, h, y.highs); copies = λ h. omega (arith, h, y.copies) }
 
-begin-code-requires : tie.Need-begin-code-requires
+begin-code-requires : tie.Need-begin_code-requires
 begin-code-requires c κs =
-    let k = c.before.before.before.before.before.tried2.given in
-    let y = subst (BegunBy c.before.before.before.before.before.before.before.before.before.before.before.before.before.before.before.before.before.before.before.before.args.image.now c.before.before.before.before.before.before.before.before.before.before.before.before.before.before.before.before.before.before.before.before.args.state.now _ _ _ _) k.1 c.before.before.before.before.before.before.before.before.before.before.before.before.before.before-code.ensures.1 in
+    let y = subst (BegunBy c.args.image.now c.args.state.now _ _ _ _) c.in-Code.is c.before_code-tried.ensures.1 in
     record {
-      cells = ap length c.before.before.before.before.before.before.before.before.put.ensures ∙ simp length-set c.before.before.before.before.before.before.before.before.before.before.before.before.before.before.before.before.before.before.before.before.requires.1.sized;
-      images = image-short c.before.before.before.before.before.before.before.before.before.before.before.before.before.before.before.before.before.before.before.before.args.image.now c.before.before.before.before.before.before.before.before.before.before.before.before.before.before.before.before.before.before.before.before.args.state.now _ (sym (ap before_answer k.1) ∙ c.before.before.before.before.before.before.before.before.before.before.before.before.before.before-code.ensures.0);
+      cells = ap length c.put.ensures ∙ simp length-set c.requires.1.sized;
+      images = image-short c.args.image.now c.args.state.now _ (sym (ap before_answer c.in-Code.is) ∙ c.before_code-tried.ensures.0);
       bases = y.inside;
-      few = rw y.names (image_few c.before.before.before.before.before.before.before.before.before.before.before.before.before.before.before.before.before.before.before.before.args.image.now c.before.before.before.before.before.before.before.before.before.before.before.before.before.before.before.before.before.before.before.before.args.state.now _ (sym (ap before_answer k.1) ∙ c.before.before.before.before.before.before.before.before.before.before.before.before.before.before-code.ensures.0));
+      few = rw y.names (image_few c.args.image.now c.args.state.now _ (sym (ap before_answer c.in-Code.is) ∙ c.before_code-tried.ensures.0));
       short = y.short;
       starts = y.few;
-      lows = c.before.before.before.before.before.before.before.before.before.before.before.before.low.given ∙ c.before.before.before.before.before.before.before.before.before.before.before.before.before.before.before.before.before.before.before.before.requires.0.lows;
-      highs = c.before.before.before.before.before.before.before.before.before.before.before.high.given ∙ c.before.before.before.before.before.before.before.before.before.before.before.before.before.before.before.before.before.before.before.before.requires.0.highs;
-      copies = c.before.before.before.before.before.before.before.before.before.before.work.given ∙ c.before.before.before.before.before.before.before.before.before.before.before.before.before.before.before.before.before.before.before.before.requires.0.copies;
+      lows = c.low-1.given ∙ c.requires.0.lows;
+      highs = c.high-1.given ∙ c.requires.0.highs;
+      copies = c.work-1.given ∙ c.requires.0.copies;
     }
 
-returns : tie.Need-returns
+returns : tie.Need-returns-in-Refused
 returns c =
-    let k = c.before.tried.given in
-    let place = subst (BegunBy c.before.before.before.before.before.before.before.before.before.before.before.before.before.before.before.before.args.image.now c.before.before.before.before.before.before.before.before.before.before.before.before.before.before.before.before.args.state.now _ _ _ _) k.1 c.before.before.before.before.before.before.before.before.before.before-code.ensures.1 in (
-      rw c.before.before.before.before.put.ensures
-          (begin_refused c.before.before.before.before.before.before.before.before.before.before.before.before.before.before.before.before.args.image.now c.before.before.before.before.before.before.before.before.before.before.before.before.before.before.before.before.args.state.now c.before.before.before.before.before.before.before.before.before.before.before.before.before.before.before.before.args.paused.now c.before.before.before.before.before.before.before.before.before.before.before.before.before.before.before.before.requires.1.sized (checkpoint_of c.before.before.before.before.before.before.before.before.before.before.before.before.before.before.before.before.args.paused.now) refl c.before.before.before.before.before.before.before.before.before.before.before.before.before.before.before.before.requires.1.no_scan c.before.before.before.before.before.before.before.before.before.before.before.before.before.before.before.before.args.w c.before.before.before.before.before.before.before.before.before.before.before.before.before.before.before.before.requires.1.waits c.before.before.before.before.before.before.before.before.before.before.before.before.before.before.before.before.requires.1.some k.0.0 k.0.1.0 (sym (ap before_answer k.1) ∙ c.before.before.before.before.before.before.before.before.before.before-code.ensures.0)),
+    let place = subst (BegunBy c.args.image.now c.args.state.now _ _ _ _) c.in-Refused.is c.before_code-tried.ensures.1 in (
+      rw c.put.ensures
+          (begin_refused c.args.image.now c.args.state.now c.args.paused.now c.requires.1.sized (checkpoint_of c.args.paused.now) refl c.requires.1.no_scan c.args.w c.requires.1.waits c.requires.1.some c.in-Refused.number c.in-Refused.place (sym (ap before_answer c.in-Refused.is) ∙ c.before_code-tried.ensures.0)),
       (place, omega arith),
     )
 
-returns-2 : tie.Need-returns-2
+returns-2 : tie.Need-returns-in-Code
 returns-2 c =
-    let k = c.before.before.before.before.before.before.before.tried2.given in
-    let b = c.before.before.before.before.before.before.before.before.before.before.before.before.before.before.before.before-code in
-    let y = subst (BegunBy c.before.before.before.before.before.before.before.before.before.before.before.before.before.before.before.before.before.before.before.before.before.before.args.image.now c.before.before.before.before.before.before.before.before.before.before.before.before.before.before.before.before.before.before.before.before.before.before.args.state.now _ _ _ _) k.1 b.ensures.1 in
-    rw c.before.begin-code.ensures.0 (
-      begin_done c.before.before.before.before.before.before.before.before.before.before.before.before.before.before.before.before.before.before.before.before.before.before.args.image.now c.before.before.before.before.before.before.before.before.before.before.before.before.before.before.before.before.before.before.before.before.before.before.args.state.now c.before.before.before.before.before.before.before.before.before.before.before.before.before.before.before.before.before.before.before.before.before.before.args.paused.now c.before.before.before.before.before.before.before.before.before.before.before.before.before.before.before.before.before.before.before.before.before.before.requires.1.sized (checkpoint_of c.before.before.before.before.before.before.before.before.before.before.before.before.before.before.before.before.before.before.before.before.before.before.args.paused.now) refl c.before.before.before.before.before.before.before.before.before.before.before.before.before.before.before.before.before.before.before.before.before.before.requires.1.no_scan c.before.before.before.before.before.before.before.before.before.before.before.before.before.before.before.before.before.before.before.before.before.before.args.w c.before.before.before.before.before.before.before.before.before.before.before.before.before.before.before.before.before.before.before.before.before.before.requires.1.waits c.before.before.before.before.before.before.before.before.before.before.before.before.before.before.before.before.before.before.before.before.before.before.requires.1.some _ _ _ c.before.begin-code.new.0 k.0.0 k.0.1.0 (sym (ap before_answer k.1) ∙ b.ensures.0) y (rw c.before.before.before.before.before.before.before.before.before.before.put.ensures at c.before.begin-code.ensures.1),
+    let b = c.before_code-tried in
+    let y = subst (BegunBy c.args.image.now c.args.state.now _ _ _ _) c.in-Code.is b.ensures.1 in
+    rw c.begin_code.ensures.0 (
+      begin_done c.args.image.now c.args.state.now c.args.paused.now c.requires.1.sized (checkpoint_of c.args.paused.now) refl c.requires.1.no_scan c.args.w c.requires.1.waits c.requires.1.some _ _ _ c.begin_code.new.memory c.in-Code.place c.in-Code.timing (sym (ap before_answer c.in-Code.is) ∙ b.ensures.0) y (rw c.put.ensures at c.begin_code.ensures.1),
       omega arith,
     )
 

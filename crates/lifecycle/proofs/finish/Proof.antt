@@ -7,35 +7,35 @@ use Rattle.lifecycle.proofs.Finishes.{finish_elsewhere, finish_idle, finish_earl
 use Rattle.lifecycle.proofs.finish.Statement.{statement}
 use Rattle.lifecycle.proofs.finish.Tie as tie
 
-returns : tie.Need-returns
-returns c = (finish_elsewhere c.before.args.state.now c.before.args.paused.now c.if1.true, tt)
+returns : tie.Need-returns-then-paused-ne-PAUSED_LENGTH
+returns c = (finish_elsewhere c.args.state.now c.args.paused.now c.if-paused-ne-PAUSED_LENGTH.true, tt)
 
-returns-2 : tie.Need-returns-2
-returns-2 c = (finish_idle c.before.before.before.before.args.state.now c.before.before.before.before.args.paused.now c.before.before.before.if1.false c.before.checkpoint-in.result c.before.checkpoint-in.ensures c.if2.true, tt)
+returns-2 : tie.Need-returns-then-phase-eq-NO_SCAN
+returns-2 c = (finish_idle c.args.state.now c.args.paused.now c.if-paused-ne-PAUSED_LENGTH.false c.checkpoint_in-p.result c.checkpoint_in-p.ensures c.if-phase-eq-NO_SCAN.true, tt)
 
-returns-3 : tie.Need-returns-3
+returns-3 : tie.Need-returns-then-phase-eq-UNDER_WAY
 returns-3 c =
-    (finish_early c.before.before.before.before.before.args.state.now c.before.before.before.before.before.args.paused.now c.before.before.before.before.if1.false c.before.before.checkpoint-in.result c.before.before.checkpoint-in.ensures c.before.if2.false c.if3.true, omega arith)
+    (finish_early c.args.state.now c.args.paused.now c.if-paused-ne-PAUSED_LENGTH.false c.checkpoint_in-p.result c.checkpoint_in-p.ensures c.if-phase-eq-NO_SCAN.false c.if-phase-eq-UNDER_WAY.true, omega arith)
 
-finish-ended-requires : tie.Need-finish-ended-requires
+finish-ended-requires : tie.Need-finish_ended-requires
 finish-ended-requires c κs =
-    let v = subst CheckpointWithin (sym c.before.before.before.before.before.before.before.checkpoint-in.ensures) (checkpoint_within c.before.before.before.before.before.before.before.before.before.before.args.paused.now) in
-    let w = subst LayoutWithin (sym c.before.before.layout-in.ensures) (layout_within c.before.before.before.before.before.before.before.before.before.before.args.paused.now) in
-    ((c.before.before.before.before.before.before.before.before.before.if1.false, w.sizes), v.counts)
+    let v = subst CheckpointWithin (sym c.checkpoint_in-p.ensures) (checkpoint_within c.args.paused.now) in
+    let w = subst LayoutWithin (sym c.layout_in-layout.ensures) (layout_within c.args.paused.now) in
+    ((c.if-paused-ne-PAUSED_LENGTH.false, w.sizes), v.counts)
 
-returns-4 : tie.Need-returns-4
+returns-4 : tie.Need-returns-then-phase-eq-AT_END
 returns-4 c =
-    let p = c.before.before.before.before.before.before.before.before.before.before.checkpoint-in in (
-      c.before.before.finish-ended.ensures.0
-          ∙ finish_end c.before.before.before.before.before.before.before.before.before.before.before.before.before.args.state.now c.before.before.before.before.before.before.before.before.before.before.before.before.before.args.paused.now c.before.before.before.before.before.before.before.before.before.before.before.before.if1.false p.result p.ensures c.before.before.before.before.before.before.before.before.before.if2.false c.before.before.before.before.before.before.before.before.if3.false c.before.before.before.before.before.before.before.if4.true c.before.before.before.before.before.layout-in.result c.before.before.before.before.before.layout-in.ensures,
-      c.before.before.finish-ended.ensures.1,
+    let p = c.checkpoint_in-p in (
+      c.finish_ended.ensures.0
+          ∙ finish_end c.args.state.now c.args.paused.now c.if-paused-ne-PAUSED_LENGTH.false p.result p.ensures c.if-phase-eq-NO_SCAN.false c.if-phase-eq-UNDER_WAY.false c.if-phase-eq-AT_END.true c.layout_in-layout.result c.layout_in-layout.ensures,
+      c.finish_ended.ensures.1,
     )
 
-returns-5 : tie.Need-returns-5
+returns-5 : tie.Need-returns
 returns-5 c =
-    let p = c.before.before.before.before.before.before.checkpoint-in in
-    let v = subst CheckpointWithin (sym p.ensures) (checkpoint_within c.before.before.before.before.before.before.before.before.before.args.paused.now) in (
-      rw c.before.put.ensures (finish_refused c.before.before.before.before.before.before.before.before.before.args.state.now c.before.before.before.before.before.before.before.before.before.args.paused.now c.before.before.before.before.before.before.before.before.if1.false p.result p.ensures c.before.before.before.before.before.if2.false c.before.before.before.before.if3.false c.before.before.before.if4.false),
+    let p = c.checkpoint_in-p in
+    let v = subst CheckpointWithin (sym p.ensures) (checkpoint_within c.args.paused.now) in (
+      rw c.put.ensures (finish_refused c.args.state.now c.args.paused.now c.if-paused-ne-PAUSED_LENGTH.false p.result p.ensures c.if-phase-eq-NO_SCAN.false c.if-phase-eq-UNDER_WAY.false c.if-phase-eq-AT_END.false),
       (omega arith, v.counts),
     )
 

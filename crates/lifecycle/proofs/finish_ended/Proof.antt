@@ -10,24 +10,24 @@ use Rattle.lifecycle.proofs.Finishes.{back, state_room, ended_done}
 use Rattle.lifecycle.proofs.finish_ended.Statement.{statement}
 use Rattle.lifecycle.proofs.finish_ended.Tie as tie
 
-returns : tie.Need-returns
+returns : tie.Need-returns-then-not-same
 returns c =
-    let a = c.before.before.before.before.before.args in
-    let e : same_values a.state.now (slice start_place a.size a.memory.now) ≡ false = rw (back 128 a.size) at (sym c.before.same.ensures ∙ not-true _ c.if1.true) in
+    let a = c.args in
+    let e : same_values a.state.now (slice start_place a.size a.memory.now) ≡ false = rw (back 128 a.size) at (sym c.same.ensures ∙ not-true _ c.if-not-same.true-raw) in
     (rw e, (omega arith, omega arith))
 
 fill-requires : tie.Need-fill-requires
 fill-requires c κs =
-    let a = c.before.before.before.before.before.before.before.before.args in
-    let e : same_values a.state.now (slice start_place a.size a.memory.now) ≡ true = rw (back 128 a.size) at (sym c.before.before.before.before.same.ensures ∙ not-false _ c.before.before.before.if1.false) in
-    rw (back 256 a.size) (state_room a.state.now a.memory.now a.size c.before.before.before.before.before.before.before.before.requires.0.0 c.before.before.before.before.before.before.before.before.requires.0.1 e)
+    let a = c.args in
+    let e : same_values a.state.now (slice start_place a.size a.memory.now) ≡ true = rw (back 128 a.size) at (sym c.same.ensures ∙ not-false _ c.if-not-same.false-raw) in
+    rw (back 256 a.size) (state_room a.state.now a.memory.now a.size c.requires.0.0 c.requires.0.1 e)
 
-returns-2 : tie.Need-returns-2
+returns-2 : tie.Need-returns
 returns-2 c =
-    let a = c.before.before.before.before.before.before.before.before.before.before.before.before.before.args in
-    let e : same_values a.state.now (slice start_place a.size a.memory.now) ≡ true = rw (back 128 a.size) at (sym c.before.before.before.before.before.before.before.before.before.same.ensures ∙ not-false _ c.before.before.before.before.before.before.before.before.if1.false) in (
-      ended_done a.state.now a.memory.now a.size c.before.before.before.before.before.before.before.before.before.before.before.before.before.requires.0.0 c.before.before.before.before.before.before.before.before.before.before.before.before.before.requires.0.1 e a.steps c.before.put.new.0 c.before.before.before.before.fill.new.0 (rw (back 256 a.size) at c.before.before.before.before.fill.ensures) c.before.put.ensures,
-      c.before.before.before.before.before.before.before.before.before.before.before.before.before.requires.1,
+    let a = c.args in
+    let e : same_values a.state.now (slice start_place a.size a.memory.now) ≡ true = rw (back 128 a.size) at (sym c.same.ensures ∙ not-false _ c.if-not-same.false-raw) in (
+      ended_done a.state.now a.memory.now a.size c.requires.0.0 c.requires.0.1 e a.steps c.put.new.memory c.fill.new.to (rw (back 256 a.size) at c.fill.ensures) c.put.ensures,
+      c.requires.1,
     )
 
 pub finish_ended_spec : {M : Type 1} → statement M

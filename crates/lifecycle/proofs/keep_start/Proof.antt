@@ -7,16 +7,16 @@ use borrow.Author.Rules.{rules}
 use Rattle.lifecycle.proofs.keep_start.Statement.{statement}
 use Rattle.lifecycle.proofs.keep_start.Tie as tie
 
-store-checkpoint-requires : tie.Need-store-checkpoint-requires
+store-checkpoint-requires : tie.Need-store_checkpoint-requires
 store-checkpoint-requires c κs = (
   search rules,
-  record { phase = phase_small (c.before.before.before.before.before.before.before.before.before.before.before.before.before.before.before.before.before.args.layout.image - c.before.before.before.before.before.before.before.before.before.before.before.before.before.before.before.before.before.args.layout.base) 0 c.before.phase-at.ensures; place = omega arith; steps = omega arith; held = omega arith },
+  record { phase = phase_small (c.args.layout.image - c.args.layout.base) 0 c.phase_at.ensures; place = omega arith; steps = omega arith; held = omega arith },
 )
 
 returns : tie.Need-returns
 returns c =
-    c.before.store-checkpoint.ensures
-    ∙ rw (c.before.before.before.before.before.store4.ensures.1, c.before.before.before.before.before.before.before.before.store-layout.ensures, c.before.before.before.before.before.before.before.before.before.before.before.store3.ensures.1, c.before.before.before.before.before.before.before.before.before.before.before.before.before.before.store2.ensures.1, c.before.before.before.before.before.before.before.before.before.before.before.before.before.before.before.before.before.store.ensures.1, c.before.before.before.phase-at.ensures)
+    c.store_checkpoint.ensures
+    ∙ rw (c.store-4.ensures.1, c.store_layout.ensures, c.store-3.ensures.1, c.store-2.ensures.1, c.store.ensures.1, c.phase_at.ensures)
 
 pub keep_start_spec : {M : Type 1} → statement M
 keep_start_spec =

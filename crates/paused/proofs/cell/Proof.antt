@@ -15,9 +15,9 @@ use Rattle.paused.proofs.cell.Tie as tie
 returns : tie.Need-returns
 unfolding clipped
 returns c =
-    let a = c.before.before.before.args in
-    let f : SFits w32 (get_or a.memory.now a.i (pos 0)) = record { sfits = c.before.before.count-arg.given } in
-    c.least.ensures ∙ ap (λ n. min n a.most) (c.before.count.ensures.0 ∙ ap count (same32 f))
+    let a = c.args in
+    let f : SFits w32 (get_or a.memory.now a.i (pos 0)) = record { sfits = c.count-arg-1.given } in
+    c.least.ensures ∙ ap (λ n. min n a.most) (c.count-n.ensures.0 ∙ ap count (same32 f))
 
 pub cell_spec : {M : Type 1} → statement M
 cell_spec = tie.close (tie.spec (λ c. search rules) (λ c. search rules) (λ c κs. search rules) (λ c κs. search rules) returns)

@@ -6,14 +6,14 @@ use Rattle.paused.proofs.Clipped.{clipped_most}
 use Rattle.paused.proofs.checkpoint_in.Statement.{statement}
 use Rattle.paused.proofs.checkpoint_in.Tie as tie
 
-cast-t4 : tie.Need-overflow-cast-t4
-cast-t4 c = record { fits = omega (arith, c.cell2.ensures, clipped_most c.before.before.args.memory.now 1 30) }
+cast-t4 : tie.Need-overflow_cast-result
+cast-t4 c = record { fits = omega (arith, c.cell-2.ensures, clipped_most c.args.memory.now 1 30) }
 
 returns : tie.Need-returns
 unfolding checkpoint_of
 returns c =
     rw
-    (c.cell7.ensures, c.before.cell6.ensures, c.before.before.cell5.ensures, c.before.before.before.cell4.ensures, c.before.before.before.before.cell3.ensures, c.before.before.before.before.before.cell2.ensures, c.before.before.before.before.before.before.cell.ensures)
+    (c.cell-7.ensures, c.cell-6.ensures, c.cell-5.ensures, c.cell-4.ensures, c.cell-3.ensures, c.cell-2.ensures, c.cell.ensures)
 
 pub checkpoint_in_spec : {M : Type 1} → statement M
 checkpoint_in_spec =

@@ -6,4 +6,4 @@ use Rattle.paused.proofs.flag.Statement.{statement}
 use Rattle.paused.proofs.flag.Tie as tie
 
 pub flag_spec : {M : Type 1} → statement M
-flag_spec = tie.close (tie.spec (λ c. ap (λ b. pos (flag_of b)) (sym c.if1.true)) (λ c. ap (λ b. pos (flag_of b)) (sym c.if1.false)))
+flag_spec = tie.close (tie.spec (λ c. ap (λ b. pos (flag_of b)) (sym c.if-b.true)) (λ c. ap (λ b. pos (flag_of b)) (sym c.if-b.false)))

@@ -13,8 +13,8 @@ use Rattle.paused.proofs.layout_in.Tie as tie
 returns : tie.Need-returns
 unfolding layout_of
 returns c =
-    let f : SFits w32 (get_or c.before.before.before.before.before.before.before.args.memory.now 12 (pos 0)) = record { sfits = c.before.before.count-arg.given } in
-    rw (c.timers-in.ensures, c.before.count.ensures.0, same32 f, c.before.before.before.cell4.ensures, c.before.before.before.before.cell3.ensures, c.before.before.before.before.before.cell2.ensures, c.before.before.before.before.before.before.cell.ensures)
+    let f : SFits w32 (get_or c.args.memory.now 12 (pos 0)) = record { sfits = c.count-arg-1.given } in
+    rw (c.timers_in.ensures, c.count.ensures.0, same32 f, c.cell.ensures, c.cell-names.ensures, c.cell-size.ensures, c.cell-image.ensures)
 
 pub layout_in_spec : {M : Type 1} → statement M
 layout_in_spec = tie.close (tie.spec (λ c κs. search rules) (λ c κs. search rules) (λ c κs. search rules) (λ c κs. search rules) (λ c. search rules) (λ c κs. search rules) (λ c κs. search rules) returns)

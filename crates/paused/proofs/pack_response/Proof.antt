@@ -9,30 +9,30 @@ use Rattle.paused.proofs.pack_response.Tie as tie
 
 pack-requires : tie.Need-pack-requires
 pack-requires c κs =
-    let l = subst (ResponseWithin image_limit) c.before.r.given.1 c.before.before.before.requires in
+    let l = subst (ResponseWithin image_limit) c.in-Done.is c.requires in
     (omega arith, omega (arith, l))
 
-pack-requires-2 : tie.Need-pack-requires-2
+pack-requires-2 : tie.Need-pack-requires-in-Refused
 pack-requires-2 c κs =
-    let l = subst (ResponseWithin image_limit) c.before.r2.given.1 c.before.before.before.requires in
+    let l = subst (ResponseWithin image_limit) c.in-Refused.is c.requires in
     (omega (arith, l.0), omega (arith, l.1))
 
-pack-requires-3 : tie.Need-pack-requires-3
+pack-requires-3 : tie.Need-pack-requires-in-Unfinished
 pack-requires-3 c κs =
-    let l = subst (ResponseWithin image_limit) c.before.r3.given.1 c.before.before.before.requires in
+    let l = subst (ResponseWithin image_limit) c.in-Unfinished.is c.requires in
     (omega arith, omega (arith, l))
 
-returns : tie.Need-returns
-returns c = c.pack.ensures ∙ ap packed_response (sym c.before.before.r.given.1)
+returns : tie.Need-returns-in-Done
+returns c = c.pack.ensures ∙ ap packed_response (sym c.in-Done.is)
 
-returns-2 : tie.Need-returns-2
-returns-2 c = c.pack2.ensures ∙ ap packed_response (sym c.before.before.r2.given.1)
+returns-2 : tie.Need-returns-in-Refused
+returns-2 c = c.pack-in-Refused.ensures ∙ ap packed_response (sym c.in-Refused.is)
 
-returns-3 : tie.Need-returns-3
-returns-3 c = c.pack3.ensures ∙ ap packed_response (sym c.before.before.r3.given.1)
+returns-3 : tie.Need-returns-in-Unfinished
+returns-3 c = c.pack-in-Unfinished.ensures ∙ ap packed_response (sym c.in-Unfinished.is)
 
-returns-4 : tie.Need-returns-4
-returns-4 c = c.pack4.ensures ∙ ap packed_response (sym c.before.enum_told.given.1)
+returns-4 : tie.Need-returns-in-Idle
+returns-4 c = c.pack-in-Idle.ensures ∙ ap packed_response (sym c.in-Idle.is)
 
 pub pack_response_spec : {M : Type 1} → statement M
 pack_response_spec =

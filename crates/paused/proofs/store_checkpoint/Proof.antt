@@ -14,19 +14,19 @@ flag_small false = omega arith
 
 returns : tie.Need-returns
 returns c =
-    let h = c.before.before.before.before.before.before.before.before.before.before.before.before.requires.1 in
-    let p = c.before.before.before.before.before.before.before.before.before.before.before.before.args.p in
+    let h = c.requires.1 in
+    let p = c.args.p in
     let n : p.number < 2 ^ 31 = search rules in
     rw (
-      kept h.phase c.before.before.before.before.before.before.before.before.before.before.before.number.ensures,
-      kept n c.before.before.before.before.before.before.before.before.before.number2.ensures,
-      kept h.place c.before.before.before.before.before.before.before.before.number3.ensures,
-      kept h.steps c.before.before.before.before.before.before.before.number4.ensures,
-      kept h.held c.before.before.before.before.before.before.number5.ensures,
-      kept (flag_small p.picked) c.before.before.before.before.before.flag.ensures,
-      kept (flag_small p.passing) c.before.before.before.before.flag2.ensures,
+      kept h.phase c.number.ensures,
+      kept n c.number-2.ensures,
+      kept h.place c.number-3.ensures,
+      kept h.steps c.number-4.ensures,
+      kept h.held c.number-5.ensures,
+      kept (flag_small p.picked) c.flag.ensures,
+      kept (flag_small p.passing) c.flag-2.ensures,
     )
-    at c.before.store.ensures.1
+    at c.store.ensures.1
 
 pub store_checkpoint_spec : {M : Type 1} → statement M
 store_checkpoint_spec =

@@ -9,8 +9,8 @@ use Rattle.paused.proofs.store_timers.Tie as tie
 
 returns : tie.Need-returns
 returns c =
-    let e = c.before.store.ensures.1 in
-    let n = c.before.before.before.before.args.timers in
+    let e = c.store.ensures.1 in
+    let n = c.args.timers in
     let a = to_z_pos w32 {n = n % 65536} (omega arith) in
     let b = to_z_pos w32 {n = n / 65536 % 65536} (omega arith) in
     let d = to_z_pos w32 {n = n / 65536 / 65536 % 65536} (omega arith) in

@@ -8,21 +8,21 @@ use Rattle.phrases.proofs.Laws.{stops, goes_on_lem, stops_in, goes_past}
 use Rattle.phrases.proofs.change_opening.Statement.{statement}
 use Rattle.phrases.proofs.change_opening.Tie as tie
 
-returns : tie.Need-returns
+returns : tie.Need-returns-in_default
 unfolding kind_of
-returns c = stops _ _ _ _ c.before.before.expect.ensures c.enum_told.given.1
+returns c = stops _ _ _ _ c.expect-first.ensures c.in_default.is
 
-returns-2 : tie.Need-returns-2
+returns-2 : tie.Need-returns-in_default-second
 unfolding kind_of
 returns-2 c =
-    goes_on_lem _ _ _ _ c.before.before.before.before.before.before.expect.ensures c.before.before.before.before.first.given.1
-    (stops_in _ _ (sign close_round ∷ sign arrow ∷ []) _ c.before.before.own-values.ensures c.enum-told2.given.1)
+    goes_on_lem _ _ _ _ c.expect-first.ensures c.in-Done.is
+    (stops_in _ _ (sign close_round ∷ sign arrow ∷ []) _ c.own_values-second.ensures c.in_default-second.is)
 
-returns-3 : tie.Need-returns-3
+returns-3 : tie.Need-returns
 unfolding kind_of
 returns-3 c =
-    goes_on_lem _ _ _ _ c.before.before.before.before.before.before.before.before.expect.ensures c.before.before.before.before.before.before.first.given.1
-    (goes_past _ _ _ _ c.before.before.before.before.own-values.ensures c.before.before.second.given.1 c.two-signs.ensures)
+    goes_on_lem _ _ _ _ c.expect-first.ensures c.in-Done.is
+    (goes_past _ _ _ _ c.own_values-second.ensures c.in-Done-second.is c.two_signs.ensures)
 
 pub change_opening_spec : {M : Type 1} → statement M
 change_opening_spec =

@@ -5,19 +5,17 @@ use borrow.Author.Rules.{rules}
 use Rattle.phrases.proofs.expect.Statement.{statement}
 use Rattle.phrases.proofs.expect.Tie as tie
 
-returns : tie.Need-returns
-returns c = faulty _ _ _ c.before.before.token-at.ensures c.enum_told.given.1
+returns : tie.Need-returns-in_default
+returns c = faulty _ _ _ c.token_at-read.ensures c.in_default.is
 
-returns-2 : tie.Need-returns-2
+returns-2 : tie.Need-returns-then-found-kind
 returns-2 c =
-    let at_read = c.before.before.before.before in
-    wanted _ _ _ at_read.before.before.token-at.ensures at_read.read.given.1 c.reached.ensures (same_kinds _ _ c.before.if1.true)
+    wanted _ _ _ c.token_at-read.ensures c.in-Done.is c.reached.ensures (same_kinds _ _ c.if-found-kind.true)
 
-returns-3 : tie.Need-returns-3
+returns-3 : tie.Need-returns
 returns-3 c =
-    let at-token-at = c.before.before.before.before.before in
-    let t = is_token _ _ _ at-token-at.token-at.ensures _ c.before.before.before.read.given.1 in
-    unwanted _ _ _ at-token-at.token-at.ensures c.before.before.before.read.given.1 (other_kinds _ _ t.1.known_kind at-token-at.before.before.requires c.if1.false)
+    let t = is_token _ _ _ c.token_at-read.ensures _ c.in-Done.is in
+    unwanted _ _ _ c.token_at-read.ensures c.in-Done.is (other_kinds _ _ t.1.known_kind c.requires c.if-found-kind.false)
 
 pub expect_spec : {M : Type 1} → statement M
 expect_spec =

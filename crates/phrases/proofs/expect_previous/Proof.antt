@@ -15,41 +15,34 @@ use borrow.Author.Rules.{rules}
 use Rattle.phrases.proofs.expect_previous.Statement.{statement}
 use Rattle.phrases.proofs.expect_previous.Tie as tie
 
-returns : tie.Need-returns
-returns c = faulty _ _ _ c.before.before.token-at.ensures c.enum_told.given.1
+returns : tie.Need-returns-in_default
+returns c = faulty _ _ _ c.token_at-read.ensures c.in_default.is
 
-add-name : tie.Need-overflow-add-name
+add-name : tie.Need-overflow_add-token
 add-name c =
-    let at_read = c.before.before.before.before.before in
-    let at-token-at = at_read.before.before in
-    let t = is_token _ _ _ at-token-at.token-at.ensures _ at_read.read.given.1 in
-    let f : Fits w64 at_read.read.given.0.0.end = search rules in
-    record { fits = omega (arith, f.fits, t.1.moved (λ e. omega (arith, c.before.before.if1.true))) }
+    let t = is_token _ _ _ c.token_at-read.ensures _ c.in-Done.is in
+    let f : Fits w64 c.in-Done.token.end = search rules in
+    record { fits = omega (arith, f.fits, t.1.moved (λ e. omega (arith, c.if-token-eq-PREVIOUS.true))) }
 
 -- the names as the definition compares them
-compared : (c : tie.After-same-name) → same_name (part c.before.before.before.before.before.before.before.before.before.before.before.args.text.now c.before.before.before.before.before.before.before.before.before.before.before.args.start c.before.before.before.before.before.before.before.before.before.before.before.args.end) (part c.before.before.before.before.before.before.before.before.before.before.before.args.text.now (c.before.before.before.before.before.before.before.read.given.0.0.start + 1) c.before.before.before.before.before.before.before.read.given.0.0.end) ≡ c.same_name_lem.result
-compared c = ap₂ same_name (sym c.before.before.before.name.ensures) (sym c.before.name2.ensures) ∙ sym c.same_name_lem.ensures
+compared : (c : tie.After-same_name) → same_name (part c.args.text.now c.args.start c.args.end) (part c.args.text.now (c.in-Done.token.start + 1) c.in-Done.token.end) ≡ c.same_name.result
+compared c = ap₂ same_name (sym c.name.ensures) (sym c.name-then-token-eq-PREVIOUS.ensures) ∙ sym c.same_name.ensures
 
-returns-2 : tie.Need-returns-2
+returns-2 : tie.Need-returns-then-same_name
 unfolding kind_of kind_number
 returns-2 c =
-    let at-if1 = c.before.before.before.before.before.before in
-    let at_read = at-if1.before.before.before in
-    wanted _ _ _ at_read.before.before.token-at.ensures at_read.read.given.1 c.reached.ensures (rw (kind_is _ previous at-if1.if1.true, compared c.before.before ∙ c.before.if2.true))
+    wanted _ _ _ c.token_at-read.ensures c.in-Done.is c.reached.ensures (rw (kind_is _ previous c.if-token-eq-PREVIOUS.true, compared c.before.before ∙ c.if-same_name.true))
 
-returns-3 : tie.Need-returns-3
+returns-3 : tie.Need-returns-else-same_name
 unfolding kind_of kind_number
 returns-3 c =
-    let at-if1 = c.before.before.before.before.before in
-    let at_read = at-if1.before.before.before in
-    unwanted _ _ _ at_read.before.before.token-at.ensures at_read.read.given.1 (rw (kind_is _ previous at-if1.if1.true, compared c.before ∙ c.if2.false))
+    unwanted _ _ _ c.token_at-read.ensures c.in-Done.is (rw (kind_is _ previous c.if-token-eq-PREVIOUS.true, compared c.before ∙ c.if-same_name.false))
 
-returns-4 : tie.Need-returns-4
+returns-4 : tie.Need-returns-else-token-eq-PREVIOUS
 unfolding kind_of kind_number
 returns-4 c =
-    let at-token-at = c.before.before.before.before.before in
-    let t = is_token _ _ _ at-token-at.token-at.ensures _ c.before.before.before.read.given.1 in
-    unwanted _ _ _ at-token-at.token-at.ensures c.before.before.before.read.given.1 (rw (kind_is_not _ previous t.1.known_kind c.if1.false))
+    let t = is_token _ _ _ c.token_at-read.ensures _ c.in-Done.is in
+    unwanted _ _ _ c.token_at-read.ensures c.in-Done.is (rw (kind_is_not _ previous t.1.known_kind c.if-token-eq-PREVIOUS.false))
 
 pub expect_previous_spec : {M : Type 1} → statement M
 expect_previous_spec =

@@ -14,24 +14,24 @@ use Rattle.phrases.proofs.falling_opening.Tie as tie
 abbrev from_name : List ℕ → List Wanted
 from_name w = own w ∷ sign minus ∷ turned_opening less w
 
-returns : tie.Need-returns
-returns c = stops_in _ _ (from_name _) _ c.before.before.formula-closing.ensures c.enum_told.given.1
+returns : tie.Need-returns-in_default
+returns c = stops_in _ _ (from_name _) _ c.formula_closing-first.ensures c.in_default.is
 
-returns-2 : tie.Need-returns-2
-returns-2 c = goes_past _ _ _ _ c.before.before.before.before.before.before.formula-closing.ensures c.before.before.before.before.first.given.1 (stops _ _ _ _ c.before.before.expect-name.ensures c.enum-told2.given.1)
+returns-2 : tie.Need-returns-in_default-second
+returns-2 c = goes_past _ _ _ _ c.formula_closing-first.ensures c.in-Done.is (stops _ _ _ _ c.expect_name-second.ensures c.in_default-second.is)
 
-returns-3 : tie.Need-returns-3
+returns-3 : tie.Need-returns-in_default-third
 unfolding kind_of
 returns-3 c =
-    goes_past _ _ _ _ c.before.before.before.before.before.before.before.before.before.before.formula-closing.ensures c.before.before.before.before.before.before.before.before.first.given.1
-    (goes_on_lem _ _ _ _ c.before.before.before.before.before.before.expect-name.ensures c.before.before.before.before.second.given.1 (stops _ _ _ _ c.before.before.expect.ensures c.enum-told3.given.1))
+    goes_past _ _ _ _ c.formula_closing-first.ensures c.in-Done.is
+    (goes_on_lem _ _ _ _ c.expect_name-second.ensures c.in-Done-second.is (stops _ _ _ _ c.expect-third.ensures c.in_default-third.is))
 
-returns-4 : tie.Need-returns-4
+returns-4 : tie.Need-returns
 unfolding kind_of
 returns-4 c =
-    goes_past _ _ _ _ c.before.before.before.before.before.before.before.before.before.before.before.before.formula-closing.ensures c.before.before.before.before.before.before.before.before.before.before.first.given.1
-    (goes_on_lem _ _ _ _ c.before.before.before.before.before.before.before.before.expect-name.ensures c.before.before.before.before.before.before.second.given.1
-    (goes_on_lem _ _ _ _ c.before.before.before.before.expect.ensures c.before.before.third.given.1 c.turned-opening.ensures))
+    goes_past _ _ _ _ c.formula_closing-first.ensures c.in-Done.is
+    (goes_on_lem _ _ _ _ c.expect_name-second.ensures c.in-Done-second.is
+    (goes_on_lem _ _ _ _ c.expect-third.ensures c.in-Done-third.is c.turned_opening.ensures))
 
 pub falling_opening_spec : {M : Type 1} → statement M
 falling_opening_spec =

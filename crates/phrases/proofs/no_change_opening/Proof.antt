@@ -37,35 +37,35 @@ from_opening w = rule_opening ++ from_value w
 abbrev from_name : List ℕ → List Wanted
 from_name w = own w ∷ from_opening w
 
-past_closing : (c : tie.After-known-told) {q : Parsed (Unit {0})} → Left c.before.before.before.before.before q (from_name (w c.before.before.before.before.before)) c.before.first.given.0.0.at → Whole c.before.before.before.before.before q
-past_closing c h = goes_past _ _ _ _ c.before.before.before.formula-closing.ensures c.before.first.given.1 h
+past_closing : (c : tie.In-Done) {q : Parsed (Unit {0})} → Left c.before.before.before q (from_name (w c.before.before.before)) c.in-Done.a.at → Whole c.before.before.before q
+past_closing c h = goes_past _ _ _ _ c.formula_closing-first.ensures c.in-Done.is h
 
-past_name : (c : tie.After-known-told2) {q : Parsed (Unit {0})} → Left c.before.before.before.before.before.before.before.before.before q (from_opening (w c.before.before.before.before.before.before.before.before.before)) c.before.second.given.0.0.at → Whole c.before.before.before.before.before.before.before.before.before q
-past_name c h = past_closing c.before.before.before.before (goes_on_lem _ _ _ _ c.before.before.before.expect-name.ensures c.before.second.given.1 h)
+past_name : (c : tie.In-Done-second) {q : Parsed (Unit {0})} → Left c.before.before.before.before.before q (from_opening (w c.before.before.before.before.before)) c.in-Done-second.b.at → Whole c.before.before.before.before.before q
+past_name c h = past_closing c.before.before (goes_on_lem _ _ _ _ c.expect_name-second.ensures c.in-Done-second.is h)
 
-past_opening : (c : tie.After-known-told3) {q : Parsed (Unit {0})} → Left c.before.before.before.before.before.before.before.before.before.before.before.before.before q (from_value (w c.before.before.before.before.before.before.before.before.before.before.before.before.before)) c.before.third.given.0.0.at → Whole c.before.before.before.before.before.before.before.before.before.before.before.before.before q
-past_opening c h = past_name c.before.before.before.before (goes_past _ _ _ _ c.before.before.before.rule-opening.ensures c.before.third.given.1 h)
+past_opening : (c : tie.In-Done-third) {q : Parsed (Unit {0})} → Left c.before.before.before.before.before.before.before q (from_value (w c.before.before.before.before.before.before.before)) c.in-Done-third.c.at → Whole c.before.before.before.before.before.before.before q
+past_opening c h = past_name c.before.before (goes_past _ _ _ _ c.rule_opening-third.ensures c.in-Done-third.is h)
 
-past_value : (c : tie.After-known-told4) {q : Parsed (Unit {0})} → Left c.before.before.before.before.before.before.before.before.before.before.before.before.before.before.before.before.before q from_arrow c.before.fourth.given.0.0.at → Whole c.before.before.before.before.before.before.before.before.before.before.before.before.before.before.before.before.before q
+past_value : (c : tie.In-Done-fourth) {q : Parsed (Unit {0})} → Left c.before.before.before.before.before.before.before.before.before q from_arrow c.in-Done-fourth.d.at → Whole c.before.before.before.before.before.before.before.before.before q
 unfolding kind_of
-past_value c h = past_opening c.before.before.before.before (goes_past _ _ _ _ c.before.before.before.own-values.ensures c.before.fourth.given.1 h)
+past_value c h = past_opening c.before.before (goes_past _ _ _ _ c.own_values-fourth.ensures c.in-Done-fourth.is h)
 
-returns : tie.Need-returns
-returns c = stops_in _ _ (from_name _) _ c.before.before.formula-closing.ensures c.enum_told.given.1
+returns : tie.Need-returns-in_default
+returns c = stops_in _ _ (from_name _) _ c.formula_closing-first.ensures c.in_default.is
 
-returns-2 : tie.Need-returns-2
-returns-2 c = past_closing c.before.before.before (stops _ _ _ _ c.before.before.expect-name.ensures c.enum-told2.given.1)
+returns-2 : tie.Need-returns-in_default-second
+returns-2 c = past_closing c.before.before (stops _ _ _ _ c.expect_name-second.ensures c.in_default-second.is)
 
-returns-3 : tie.Need-returns-3
-returns-3 c = past_name c.before.before.before (stops_in _ _ (from_value _) _ c.before.before.rule-opening.ensures c.enum-told3.given.1)
+returns-3 : tie.Need-returns-in_default-third
+returns-3 c = past_name c.before.before (stops_in _ _ (from_value _) _ c.rule_opening-third.ensures c.in_default-third.is)
 
-returns-4 : tie.Need-returns-4
+returns-4 : tie.Need-returns-in_default-fourth
 unfolding kind_of
-returns-4 c = past_opening c.before.before.before (stops_in _ _ from_arrow _ c.before.before.own-values.ensures c.enum-told4.given.1)
+returns-4 c = past_opening c.before.before (stops_in _ _ from_arrow _ c.own_values-fourth.ensures c.in_default-fourth.is)
 
-returns-5 : tie.Need-returns-5
+returns-5 : tie.Need-returns
 unfolding kind_of
-returns-5 c = past_value c.before c.three-signs.ensures
+returns-5 c = past_value c.before c.three_signs.ensures
 
 pub no_change_opening_spec : {M : Type 1} → statement M
 no_change_opening_spec =

@@ -6,7 +6,7 @@ use Rattle.phrases.proofs.rule_opening.Tie as tie
 
 returns : tie.Need-returns
 unfolding kind_of
-returns c = c.three-signs.ensures
+returns c = c.three_signs.ensures
 
 pub rule_opening_spec : {M : Type 1} → statement M
 rule_opening_spec = tie.close (tie.spec (λ c κs. search rules) returns)

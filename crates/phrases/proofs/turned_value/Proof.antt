@@ -8,12 +8,12 @@ use Rattle.phrases.proofs.Laws.{last, stops_in, goes_past}
 use Rattle.phrases.proofs.turned_value.Statement.{statement}
 use Rattle.phrases.proofs.turned_value.Tie as tie
 
-returns : tie.Need-returns
-returns c = stops_in _ _ (sign arrow ∷ []) _ c.before.before.own-values.ensures c.enum_told.given.1
+returns : tie.Need-returns-in_default
+returns c = stops_in _ _ (sign arrow ∷ []) _ c.own_values-first.ensures c.in_default.is
 
-returns-2 : tie.Need-returns-2
+returns-2 : tie.Need-returns
 unfolding kind_of
-returns-2 c = goes_past _ _ _ _ c.before.before.before.before.own-values.ensures c.before.before.first.given.1 (last _ _ _ c.expect.ensures)
+returns-2 c = goes_past _ _ _ _ c.own_values-first.ensures c.in-Done.is (last _ _ _ c.expect.ensures)
 
 pub turned_value_spec : {M : Type 1} → statement M
 turned_value_spec = tie.close (tie.spec (λ c κs. search rules) (λ c. search rules) (λ c. search rules) returns (λ c κs. search rules) returns-2)

@@ -4,11 +4,11 @@ use Rattle.phrases.proofs.Laws.{last, stops, goes_on_lem}
 use Rattle.phrases.proofs.two_signs.Statement.{statement}
 use Rattle.phrases.proofs.two_signs.Tie as tie
 
-returns : tie.Need-returns
-returns c = stops _ _ _ _ c.before.before.expect.ensures c.enum_told.given.1
+returns : tie.Need-returns-in_default
+returns c = stops _ _ _ _ c.expect-first.ensures c.in_default.is
 
-returns-2 : tie.Need-returns-2
-returns-2 c = goes_on_lem _ _ _ _ c.before.before.before.before.expect.ensures c.before.before.first.given.1 (last _ _ _ c.expect2.ensures)
+returns-2 : tie.Need-returns
+returns-2 c = goes_on_lem _ _ _ _ c.expect-first.ensures c.in-Done.is (last _ _ _ c.expect.ensures)
 
 pub two_signs_spec : {M : Type 1} → statement M
 two_signs_spec =

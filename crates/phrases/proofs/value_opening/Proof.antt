@@ -5,12 +5,12 @@ use Rattle.phrases.proofs.Laws.{stops, goes_on_lem}
 use Rattle.phrases.proofs.value_opening.Statement.{statement}
 use Rattle.phrases.proofs.value_opening.Tie as tie
 
-returns : tie.Need-returns
-returns c = stops _ _ _ _ c.before.before.expect-name.ensures c.enum_told.given.1
+returns : tie.Need-returns-in_default
+returns c = stops _ _ _ _ c.expect_name-first.ensures c.in_default.is
 
-returns-2 : tie.Need-returns-2
+returns-2 : tie.Need-returns
 unfolding kind_of
-returns-2 c = goes_on_lem _ _ _ _ c.before.before.before.before.expect-name.ensures c.before.before.first.given.1 c.two-signs.ensures
+returns-2 c = goes_on_lem _ _ _ _ c.expect_name-first.ensures c.in-Done.is c.two_signs.ensures
 
 pub value_opening_spec : {M : Type 1} → statement M
 value_opening_spec = tie.close (tie.spec (λ c κs. search rules) (λ c. search rules) (λ c. search rules) returns (λ c κs. search rules) returns-2)

@@ -5,23 +5,23 @@ use Rattle.resumable.proofs.Advancing.{advance_elsewhere, advance_idle, advance_
 use Rattle.resumable.proofs.advance.Statement.{statement}
 use Rattle.resumable.proofs.advance.Tie as tie
 
-returns : tie.Need-returns
-returns c = let a = c.before.before.args in (advance_elsewhere a.image.now a.steps a.paused.now c.if1.true, tt)
+returns : tie.Need-returns-then-paused-ne-PAUSED_LENGTH
+returns c = let a = c.args in (advance_elsewhere a.image.now a.steps a.paused.now c.if-paused-ne-PAUSED_LENGTH.true, tt)
 
-returns-2 : tie.Need-returns-2
+returns-2 : tie.Need-returns-then-phase-eq-NO_SCAN
 returns-2 c =
-    let a = c.before.before.before.before.before.args in
-    (advance_idle a.image.now a.steps a.paused.now c.before.before.before.if1.false c.before.checkpoint-in.result c.before.checkpoint-in.ensures c.if2.true, tt)
+    let a = c.args in
+    (advance_idle a.image.now a.steps a.paused.now c.if-paused-ne-PAUSED_LENGTH.false c.checkpoint_in-p.result c.checkpoint_in-p.ensures c.if-phase-eq-NO_SCAN.true, tt)
 
-returns-3 : tie.Need-returns-3
+returns-3 : tie.Need-returns-then-phase-ne-UNDER_WAY
 returns-3 c =
-    let a = c.before.before.before.before.before.before.args in
-    (advance_over a.image.now a.steps a.paused.now c.before.before.before.before.if1.false c.before.before.checkpoint-in.result c.before.before.checkpoint-in.ensures c.before.if2.false c.if3.true, omega arith)
+    let a = c.args in
+    (advance_over a.image.now a.steps a.paused.now c.if-paused-ne-PAUSED_LENGTH.false c.checkpoint_in-p.result c.checkpoint_in-p.ensures c.if-phase-eq-NO_SCAN.false c.if-phase-ne-UNDER_WAY.true, omega arith)
 
-returns-4 : tie.Need-returns-4
+returns-4 : tie.Need-returns-then-steps-eq0
 returns-4 c =
-    let a = c.before.before.before.before.before.before.before.args in
-    (advance_zero a.image.now a.steps a.paused.now c.before.before.before.before.before.if1.false c.before.before.before.checkpoint-in.result c.before.before.before.checkpoint-in.ensures c.before.before.if2.false c.before.if3.false c.if4.true, omega arith)
+    let a = c.args in
+    (advance_zero a.image.now a.steps a.paused.now c.if-paused-ne-PAUSED_LENGTH.false c.checkpoint_in-p.result c.checkpoint_in-p.ensures c.if-phase-eq-NO_SCAN.false c.if-phase-ne-UNDER_WAY.false c.if-steps-eq0.true, omega arith)
 
 pub advance_spec : {M : Type 1} → statement M
 advance_spec =

@@ -7,9 +7,9 @@ use Rattle.resumable.proofs.advance_untimed_by.Tie as tie
 
 keep-requires : tie.Need-keep-requires
 keep-requires c κs =
-    let y = c.before.before.before.before.before.before.before.before.before.before.requires in
-    let r = c.before.before.before.before.before.run-untimed-from in
-    let place = place_left c.before.before.before.before.before.before.before.before.before.before.args.layout y.0 y.1.0 r.result r.new.1.1.1.1.1.1.0 r.new.1.1.1.1.1.0 r.ensures.0 in (
+    let y = c.requires in
+    let r = c.run_untimed_from-ran in
+    let place = place_left c.args.layout y.0 y.1.0 r.result r.new.vals r.new.cur r.ensures.0 in (
       record {
         cells = y.0.cells;
         current = search rules;
@@ -18,13 +18,13 @@ keep-requires c κs =
         earlier = y.1.0.steps;
         steps = omega (arith, r.ensures.1, y.1.0.budget);
       },
-      few_left c.before.before.before.before.before.before.before.before.before.before.args.layout y.0 y.1.0 r.result r.new.1.1.1.1.1.1.0 r.new.1.1.1.1.1.0 r.ensures.0,
+      few_left c.args.layout y.0 y.1.0 r.result r.new.vals r.new.cur r.ensures.0,
     )
 
 returns : tie.Need-returns
 returns c =
-    let r = c.before.before.before.before.before.before.before.run-untimed-from in (
-      instalment_is c.before.before.before.before.before.before.before.before.before.before.before.before.args.layout c.before.before.before.before.before.before.before.before.before.before.before.before.requires.0 c.before.before.before.before.before.before.before.before.before.before.before.before.requires.1.0 r.result r.new.1.1.1.1.1.1.0 r.new.1.1.1.1.1.0 r.ensures.0 c.before.keep.ensures,
+    let r = c.run_untimed_from-ran in (
+      instalment_is c.args.layout c.requires.0 c.requires.1.0 r.result r.new.vals r.new.cur r.ensures.0 c.keep.ensures,
       r.ensures.1,
     )
 

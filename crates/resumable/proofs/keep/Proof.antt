@@ -5,14 +5,14 @@ use Rattle.machine.specs.Inner.Memory.{Few}
 use Rattle.resumable.proofs.keep.Statement.{statement}
 use Rattle.resumable.proofs.keep.Tie as tie
 
-keep-going-requires : tie.Need-keep-going-requires
-keep-going-requires c κs = (c.before.before.before.before.requires.0, subst Few c.before.before.last.given.1 c.before.before.before.before.requires.1)
+keep-going-requires : tie.Need-keep_going-requires
+keep-going-requires c κs = (c.requires.0, subst Few c.in-Next.is c.requires.1)
 
-returns : tie.Need-returns
-returns c = rw c.before.before.before.before.last.given.1 c.before.keep-going.ensures
+returns : tie.Need-returns-in-Next
+returns c = rw c.in-Next.is c.keep_going.ensures
 
-returns-2 : tie.Need-returns-2
-returns-2 c = rw c.before.before.before.before.last2.given.1 c.before.store-checkpoint.ensures
+returns-2 : tie.Need-returns-in-Refused
+returns-2 c = rw c.in-Refused.is c.store_checkpoint.ensures
 
 pub keep_spec : {M : Type 1} → statement M
 keep_spec =

@@ -12,11 +12,11 @@ back a n = omega arith
 
 returns : tie.Need-returns
 returns c =
-    let a = c.before.before.before.before.before.before.before.before.before.before.before.before.before.before.before.before.before.args in
+    let a = c.args in
     let n = a.layout.size in (
-      ran_from_lem a.layout c.before.before.before.before.before.before.before.before.before.before.before.before.before.before.before.before.before.requires a.code.now a.n _ c.before.before.before.before.before.before.before.before.before.before.before.before.before.fill.new.0 c.before.before.before.before.before.before.before.before.before.fill2.new.0 (rw (back 256 n) at c.before.before.before.before.before.before.before.before.before.before.before.before.before.fill.ensures) c.before.before.before.before.before.before.before.before.before.fill2.ensures (384 + n - 384)
-          (512 + n - 512) (128 + n - 128) (back 384 n) (back 512 n) (back 128 n) c.before.before.run.ensures.0,
-      c.before.before.run.ensures.1,
+      ran_from_lem a.layout c.requires a.code.now a.n _ c.fill.new.to c.fill-2.new.to (rw (back 256 n) at c.fill.ensures) c.fill-2.ensures (384 + n - 384)
+          (512 + n - 512) (128 + n - 128) (back 384 n) (back 512 n) (back 128 n) c.run.ensures.0,
+      c.run.ensures.1,
     )
 
 pub run_from_spec : {M : Type 1} → statement M

@@ -12,11 +12,11 @@ back a n = omega arith
 
 returns : tie.Need-returns
 returns c =
-    let a = c.before.before.before.before.before.before.before.before.before.before.before.before.before.before.before.before.before.args in
+    let a = c.args in
     let n = a.layout.size in (
-      ran_untimed a.layout c.before.before.before.before.before.before.before.before.before.before.before.before.before.before.before.before.before.requires.0 c.before.before.before.before.before.before.before.before.before.before.before.before.before.before.before.before.before.requires.1 a.code.now a.n _ _ _ c.before.before.before.before.before.before.before.before.before.before.before.before.before.fill.new.0 c.before.before.before.before.before.before.before.before.before.fill2.new.0 (rw (back 256 n) at c.before.before.before.before.before.before.before.before.before.before.before.before.before.fill.ensures) c.before.before.before.before.before.before.before.before.before.fill2.ensures (384 + n - 384)
-          (512 + n - 512) (128 + n - 128) (back 384 n) (back 512 n) (back 128 n) c.before.before.run-untimed.ensures,
-      c.before.before.run-untimed.ensures.within,
+      ran_untimed a.layout c.requires.0 c.requires.1 a.code.now a.n _ _ _ c.fill.new.to c.fill-2.new.to (rw (back 256 n) at c.fill.ensures) c.fill-2.ensures (384 + n - 384)
+          (512 + n - 512) (128 + n - 128) (back 384 n) (back 512 n) (back 128 n) c.run_untimed.ensures,
+      c.run_untimed.ensures.within,
     )
 
 pub run_untimed_from_spec : {M : Type 1} → statement M

@@ -8,24 +8,24 @@ use Rattle.resumable.specs.Instalment.{instalment}
 use Rattle.resumable.proofs.timed_in.Statement.{statement}
 use Rattle.resumable.proofs.timed_in.Tie as tie
 
-slice-relend-prefix-advance-by : tie.Need-slice-relend-prefix-advance-by
+slice-relend-prefix-advance-by : tie.Need-slice_bounds-advance_by-end
 slice-relend-prefix-advance-by c =
-    let w = subst LayoutWithin (sym c.before.layout-in.ensures) (layout_within c.before.before.before.before.args.memory.now) in
-    omega (arith, w.sizes, c.before.before.before.before.requires.0.0)
+    let w = subst LayoutWithin (sym c.layout_in-layout.ensures) (layout_within c.args.memory.now) in
+    omega (arith, w.sizes, c.requires.0.0)
 
-slice-aggregate-advance-by : tie.Need-slice-aggregate-advance-by
+slice-aggregate-advance-by : tie.Need-slice_bounds-advance_by-end-2
 slice-aggregate-advance-by c =
-    let w = subst LayoutWithin (sym c.before.before.layout-in.ensures) (layout_within c.before.before.before.before.before.args.memory.now) in
-    sym (length-take-le c.before.before.layout-in.result.size c.before.before.before.before.before.args.cur.now (omega (arith, w.sizes, c.before.before.before.before.before.requires.0.0)))
+    let w = subst LayoutWithin (sym c.layout_in-layout.ensures) (layout_within c.args.memory.now) in
+    sym (length-take-le c.layout_in-layout.result.size c.args.cur.now (omega (arith, w.sizes, c.requires.0.0)))
 
-advance-by-requires : tie.Need-advance-by-requires
+advance-by-requires : tie.Need-advance_by-requires
 advance-by-requires c κs =
-    let w = subst LayoutWithin (sym c.before.before.before.layout-in.ensures) (layout_within c.before.before.before.before.before.before.args.memory.now) in
-    let p = c.before.before.before.before.before.before.requires in (
+    let w = subst LayoutWithin (sym c.layout_in-layout.ensures) (layout_within c.args.memory.now) in
+    let p = c.requires in (
       record {
         cells = p.1.0.cells;
         few = w.sizes;
-        current = length-take-le c.before.before.before.layout-in.result.size c.before.before.before.before.before.before.args.cur.now (omega (arith, w.sizes, p.0.0));
+        current = length-take-le c.layout_in-layout.result.size c.args.cur.now (omega (arith, w.sizes, p.0.0));
         room = p.0.1;
         held = p.1.0.held;
       },
@@ -34,8 +34,8 @@ advance-by-requires c κs =
 
 returns : tie.Need-returns
 returns c =
-    let a = c.before.before.before.before.before.before.before.before.before.before.args in
-    (c.before.before.before.advance-by.ensures.0 ∙ ap (λ f. instalment a.code.now a.n a.memory.now a.p f) c.before.before.before.before.before.before.before.layout-in.ensures, c.before.before.before.advance-by.ensures.1)
+    let a = c.args in
+    (c.advance_by.ensures.0 ∙ ap (λ f. instalment a.code.now a.n a.memory.now a.p f) c.layout_in-layout.ensures, c.advance_by.ensures.1)
 
 pub timed_in_spec : {M : Type 1} → statement M
 timed_in_spec =

@@ -6,16 +6,16 @@ use lib.Seq.{length-take-le}
 use Rattle.resumable.proofs.untimed_in.Statement.{statement}
 use Rattle.resumable.proofs.untimed_in.Tie as tie
 
-slice-aggregate-advance-untimed-by : tie.Need-slice-aggregate-advance-untimed-by
+slice-aggregate-advance-untimed-by : tie.Need-slice_bounds-advance_untimed_by-end-2
 slice-aggregate-advance-untimed-by c =
-    let a = c.before.before.before.args in
-    let p = c.before.before.before.requires in
+    let a = c.args in
+    let p = c.requires in
     sym (length-take-le a.layout.size a.cur.now (omega (arith, p.0.0, p.1.1.1.1)))
 
-advance-untimed-by-requires : tie.Need-advance-untimed-by-requires
+advance-untimed-by-requires : tie.Need-advance_untimed_by-requires
 advance-untimed-by-requires c κs =
-    let a = c.before.before.before.before.args in
-    let p = c.before.before.before.before.requires in (
+    let a = c.args in
+    let p = c.requires in (
       record {
         cells = p.1.0.cells;
         few = omega (arith, p.1.1.1.1);

@@ -27,20 +27,20 @@ in_limit_below t =
 abbrev claims : ℕ → in-limit-lts.Claims
 claims t = (share-fits-reads.Asked, share-fits-reads.Learnt, in_limit_below t, in_limit.Post)
 
-in_limit_returns : (t : ℕ) → in-limit-lts.Need-returns (claims t) (in_limit_at t) in_limit.Post
-in_limit_returns t c = limit_end c.before.before.args.most c.before.before.args.table.now c.if1.true
+in_limit_returns : (t : ℕ) → in-limit-lts.Need-returns-then-table-lt1 (claims t) (in_limit_at t) in_limit.Post
+in_limit_returns t c = limit_end c.args.most c.args.table.now c.if-table-lt1.true
 
-in_limit_returns_2 : (t : ℕ) → in-limit-lts.Need-returns-2 (claims t) (in_limit_at t) in_limit.Post
-in_limit_returns_2 t c = limit_many c.before.before.before.args.most c.before.before.before.args.table.now c.before.if1.false c.if2.true
+in_limit_returns_2 : (t : ℕ) → in-limit-lts.Need-returns-then-most-lt1 (claims t) (in_limit_at t) in_limit.Post
+in_limit_returns_2 t c = limit_many c.args.most c.args.table.now c.if-table-lt1.false c.if-most-lt1.true
 
-in_limit_returns_3 : (t : ℕ) → in-limit-lts.Need-returns-3 (claims t) (in_limit_at t) in_limit.Post
-in_limit_returns_3 t c = limit_cut c.before.before.before.before.args.most c.before.before.before.before.args.table.now c.before.before.if1.false c.if3.true
+in_limit_returns_3 : (t : ℕ) → in-limit-lts.Need-returns-then-table-lt3 (claims t) (in_limit_at t) in_limit.Post
+in_limit_returns_3 t c = limit_cut c.args.most c.args.table.now c.if-table-lt1.false c.if-table-lt3.true
 
-in_limit_returns_4 : (t : ℕ) → in-limit-lts.Need-returns-4 (claims t) (in_limit_at t) in_limit.Post
-in_limit_returns_4 t c = limit_out c.before.before.before.before.before.before.before.args.most c.before.before.before.before.before.before.before.args.table.now c.before.before.before.before.if2.false c.before.before.before.if3.false (sym (not-true _ c.if4.true) ∙ c.before.share-fits.ensures)
+in_limit_returns_4 : (t : ℕ) → in-limit-lts.Need-returns-then-not-fits (claims t) (in_limit_at t) in_limit.Post
+in_limit_returns_4 t c = limit_out c.args.most c.args.table.now c.if-most-lt1.false c.if-table-lt3.false (sym (not-true _ c.if-not-fits.true-raw) ∙ c.share_fits-fits.ensures)
 
-in_limit_returns_5 : (t : ℕ) → in-limit-lts.Need-returns-5 (claims t) (in_limit_at t) in_limit.Post
-in_limit_returns_5 t c = limit_next c.before.before.before.before.before.before.before.before.before.args.most c.before.before.before.before.before.before.before.before.before.args.table.now c.before.before.before.before.before.before.if2.false c.before.before.before.before.before.if3.false (sym (not-false _ c.before.before.if4.false) ∙ c.before.before.before.share-fits.ensures) c.in_limit.result c.in_limit.ensures
+in_limit_returns_5 : (t : ℕ) → in-limit-lts.Need-returns (claims t) (in_limit_at t) in_limit.Post
+in_limit_returns_5 t c = limit_next c.args.most c.args.table.now c.if-most-lt1.false c.if-table-lt3.false (sym (not-false _ c.if-not-fits.false-raw) ∙ c.share_fits-fits.ensures) c.in_limit.result c.in_limit.ensures
 
 pub +in_limit_spec : {M : Type 1} → statement M
 +in_limit_spec =

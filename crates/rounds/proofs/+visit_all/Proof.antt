@@ -30,25 +30,25 @@ visit_all_below t =
 abbrev claims : ℕ → visit-all-lts.Claims
 claims t = (least-reads.Asked, least-reads.Learnt, visit-reads.Asked, visit-reads.Learnt, answer-reads.Asked, answer-reads.Learnt, visit_all_below t, visit-all.Post)
 
-visit_all_returns : (t : ℕ) → visit-all-lts.Need-returns (claims t) (visit_all_at t) visit-all.Post
-visit_all_returns t c = ended c.before.before.before.before.args.table.now c.before.before.before.before.args.images.now c.before.before.before.before.args.paused.now c.before.before.before.before.args.states.now c.before.before.before.before.args.answers.now c.before.before.before.before.args.i c.if1.true
+visit_all_returns : (t : ℕ) → visit-all-lts.Need-returns-then-table-lt3 (claims t) (visit_all_at t) visit-all.Post
+visit_all_returns t c = ended c.args.table.now c.args.images.now c.args.paused.now c.args.states.now c.args.answers.now c.args.i c.if-table-lt3.true
 
-visit_all_slice_aggregate_visit : (t : ℕ) → visit-all-lts.Need-slice-aggregate-visit (claims t) (visit_all_at t) visit-all.Post
-visit_all_slice_aggregate_visit t c = sym (length-take-le c.before.before.before.before.before.least.result c.before.before.before.before.before.before.before.before.before.before.args.paused.now (omega (arith, c.before.before.before.before.before.least.ensures)))
+visit_all_slice_aggregate_visit : (t : ℕ) → visit-all-lts.Need-slice_bounds-visit-end-2 (claims t) (visit_all_at t) visit-all.Post
+visit_all_slice_aggregate_visit t c = sym (length-take-le c.least-cells.result c.args.paused.now (omega (arith, c.least-cells.ensures)))
 
-visit_all_slice_aggregate_visit_2 : (t : ℕ) → visit-all-lts.Need-slice-aggregate-visit-2 (claims t) (visit_all_at t) visit-all.Post
-visit_all_slice_aggregate_visit_2 t c = sym (length-take-le c.before.before.before.before.least2.result c.before.before.before.before.before.before.before.before.before.before.before.args.images.now (omega (arith, c.before.before.before.before.least2.ensures)))
+visit_all_slice_aggregate_visit_2 : (t : ℕ) → visit-all-lts.Need-slice_bounds-visit-end-3 (claims t) (visit_all_at t) visit-all.Post
+visit_all_slice_aggregate_visit_2 t c = sym (length-take-le c.least-bytes.result c.args.images.now (omega (arith, c.least-bytes.ensures)))
 
-visit_all_slice_aggregate_visit_3 : (t : ℕ) → visit-all-lts.Need-slice-aggregate-visit-3 (claims t) (visit_all_at t) visit-all.Post
-visit_all_slice_aggregate_visit_3 t c = sym (length-take-le c.before.before.before.least3.result c.before.before.before.before.before.before.before.before.before.before.before.before.args.states.now (omega (arith, c.before.before.before.least3.ensures)))
+visit_all_slice_aggregate_visit_3 : (t : ℕ) → visit-all-lts.Need-slice_bounds-visit-end-5 (claims t) (visit_all_at t) visit-all.Post
+visit_all_slice_aggregate_visit_3 t c = sym (length-take-le c.least-size.result c.args.states.now (omega (arith, c.least-size.ensures)))
 
-visit_all_same_length_2 : (t : ℕ) → visit-all-lts.Need-same-length-2 (claims t) (visit_all_at t) visit-all.Post
-visit_all_same_length_2 t c = lent_long c.before.before.before.before.before.before.before.before.before.before.before.before.before.before.before.before.before.before.before.before.before.least3.result (get_or c.before.before.before.before.before.before.before.before.before.before.before.before.before.before.before.before.before.before.before.before.before.before.before.before.before.before.before.before.before.before.args.table.now 1 0) c.before.before.before.before.before.before.before.before.before.before.before.before.before.before.before.before.before.before.before.before.before.before.before.before.before.before.before.before.before.before.args.states.now c.before.before.before.before.before.before.before.before.before.before.before.before.before.before.before.before.visit.new.1.1.0 c.before.before.before.before.visit-all.new.1.1.0 c.before.before.before.before.before.before.before.before.before.before.before.before.before.before.before.before.before.before.before.before.before.least3.ensures c.before.before.before.before.before.before.before.before.before.before.before.before.before.before.before.before.visit.auto.1.1.0 c.before.before.before.before.visit-all.auto.1.1.0
+visit_all_same_length_2 : (t : ℕ) → visit-all-lts.Need-shape_of-states (claims t) (visit_all_at t) visit-all.Post
+visit_all_same_length_2 t c = lent_long c.least-size.result (get_or c.args.table.now 1 0) c.args.states.now c.visit-response.new.state c.visit_all.new.states c.least-size.ensures c.visit-response.auto.state c.visit_all.auto.states
 
-visit_all_returns_2 : (t : ℕ) → visit-all-lts.Need-returns-2 (claims t) (visit_all_at t) visit-all.Post
+visit_all_returns_2 : (t : ℕ) → visit-all-lts.Need-returns (claims t) (visit_all_at t) visit-all.Post
 visit_all_returns_2 t c =
-    turned_in c.before.before.before.before.before.before.before.before.before.before.before.before.before.before.before.before.before.before.before.before.before.before.before.before.before.before.before.before.before.before.args.table.now c.before.before.before.before.before.before.before.before.before.before.before.before.before.before.before.before.before.before.before.before.before.before.before.before.before.before.before.before.before.before.args.images.now c.before.before.before.before.before.before.before.before.before.before.before.before.before.before.before.before.before.before.before.before.before.before.before.before.before.before.before.before.before.before.args.paused.now c.before.before.before.before.before.before.before.before.before.before.before.before.before.before.before.before.before.before.before.before.before.before.before.before.before.before.before.before.before.before.args.states.now c.before.before.before.before.before.before.before.before.before.before.before.before.before.before.before.before.before.before.before.before.before.before.before.before.before.before.before.before.before.before.args.answers.now c.before.before.before.before.before.before.before.before.before.before.before.before.before.before.before.before.before.before.before.before.before.before.before.before.before.before.before.before.before.before.args.i c.before.before.before.before.before.before.before.before.before.before.before.before.before.before.before.before.before.before.before.before.before.before.before.before.before.before.if1.false c.before.before.before.before.before.before.before.before.before.before.before.before.before.before.before.before.before.before.before.before.before.before.before.before.before.least.result c.before.before.before.before.before.before.before.before.before.before.before.before.before.before.before.before.before.before.before.before.before.before.before.least2.result c.before.before.before.before.before.before.before.before.before.before.before.before.before.before.before.before.before.before.before.before.before.least3.result c.before.before.before.before.before.before.before.before.before.before.before.before.before.before.before.before.before.before.before.before.before.before.before.before.before.least.ensures c.before.before.before.before.before.before.before.before.before.before.before.before.before.before.before.before.before.before.before.before.before.before.before.least2.ensures c.before.before.before.before.before.before.before.before.before.before.before.before.before.before.before.before.before.before.before.before.before.least3.ensures
-    c.before.before.before.before.before.before.before.before.before.before.before.before.before.before.before.before.visit.result c.before.before.before.before.before.before.before.before.before.before.before.before.before.before.before.before.visit.new.0 c.before.before.before.before.before.before.before.before.before.before.before.before.before.before.before.before.visit.new.1.1.0 c.before.before.before.before.before.before.before.before.before.before.before.before.before.before.before.before.visit.ensures.0 c.before.before.before.before.before.before.before.before.before.before.before.before.before.before.before.before.visit.auto.0 c.before.before.before.before.before.before.before.before.before.before.before.before.before.before.before.before.visit.auto.1.1.0 c.before.before.before.before.before.before.before.before.before.before.before.before.answer.new.0 c.before.before.before.before.before.before.before.before.before.before.before.before.answer.ensures c.before.before.before.before.visit-all.new.0 c.before.before.before.before.visit-all.new.1.1.0 c.before.before.before.before.visit-all.new.1.1.1.1.0 c.before.before.before.before.visit-all.ensures
+    turned_in c.args.table.now c.args.images.now c.args.paused.now c.args.states.now c.args.answers.now c.args.i c.if-table-lt3.false c.least-cells.result c.least-bytes.result c.least-size.result c.least-cells.ensures c.least-bytes.ensures c.least-size.ensures
+    c.visit-response.result c.visit-response.new.paused c.visit-response.new.state c.visit-response.ensures.0 c.visit-response.auto.paused c.visit-response.auto.state c.answer.new.answers c.answer.ensures c.visit_all.new.paused c.visit_all.new.states c.visit_all.new.answers c.visit_all.ensures
 
 pub +visit_all_spec : {M : Type 1} → statement M
 +visit_all_spec = close μ_visit_all λ t. visit-all-lts.spec (claims t)

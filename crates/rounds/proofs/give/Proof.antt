@@ -5,7 +5,7 @@ use Rattle.rounds.proofs.give.Statement.{statement}
 use Rattle.rounds.proofs.give.Tie as tie
 
 returns : tie.Need-returns
-returns c = (gives c.before.before.before.before.before.before.before.before.before.before.before.args.image.now c.before.before.before.before.before.before.before.before.before.before.before.args.share c.before.before.before.before.before.before.before.before.before.before.before.args.paused.now c.before.before.before.before.before.before.before.before.before.before.before.args.state.now c.before.before.before.before.before.before.before.before.advance.result _ c.before.before.before.before.before.before.before.before.advance.ensures.0 c.before.before.before.before.before.before.steps-in.result c.before.before.before.before.before.before.steps-in.ensures.0 c.before.before.before.finish.result _ _ c.before.before.before.finish.ensures.0 c.with-steps.result c.with-steps.ensures.0, c.with-steps.ensures.1)
+returns c = (gives c.args.image.now c.args.share c.args.paused.now c.args.state.now c.advance-advanced.result _ c.advance-advanced.ensures.0 c.steps_in-steps.result c.steps_in-steps.ensures.0 c.finish-over.result _ _ c.finish-over.ensures.0 c.with_steps.result c.with_steps.ensures.0, c.with_steps.ensures.1)
 
 pub give_spec : {M : Type 1} → statement M
 give_spec =

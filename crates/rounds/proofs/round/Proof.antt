@@ -8,17 +8,17 @@ use borrow.Author.Rules.{rules}
 use Rattle.rounds.proofs.round.Statement.{statement}
 use Rattle.rounds.proofs.round.Tie as tie
 
-returns : tie.Need-returns
-returns c = round_empty c.before.before.before.before.args.table.now c.before.before.before.before.args.images.now (together c.before.before.before.before.args.paused.now c.before.before.before.before.args.states.now c.before.before.before.before.args.answers.now) c.if1.true
+returns : tie.Need-returns-then-table-lt1
+returns c = round_empty c.args.table.now c.args.images.now (together c.args.paused.now c.args.states.now c.args.answers.now) c.if-table-lt1.true
 
-returns-2 : tie.Need-returns-2
-returns-2 c = round_out c.before.before.before.before.before.before.args.table.now c.before.before.before.before.before.before.args.images.now (together c.before.before.before.before.before.before.args.paused.now c.before.before.before.before.before.before.args.states.now c.before.before.before.before.before.before.args.answers.now) c.before.before.if1.false (sym (not-true _ c.if2.true) ∙ c.before.in_limit.ensures)
+returns-2 : tie.Need-returns-then-not-fits
+returns-2 c = round_out c.args.table.now c.args.images.now (together c.args.paused.now c.args.states.now c.args.answers.now) c.if-table-lt1.false (sym (not-true _ c.if-not-fits.true-raw) ∙ c.in_limit-fits.ensures)
 
-visit-all-requires : tie.Need-visit-all-requires
-visit-all-requires c κs = omega (arith, table_short 8 c.before.before.before.before.before.before.before.before.before.args.table.now (sym c.before.before.before.before.in_limit.ensures ∙ not-false _ c.before.before.before.if2.false))
+visit-all-requires : tie.Need-visit_all-requires
+visit-all-requires c κs = omega (arith, table_short 8 c.args.table.now (sym c.in_limit-fits.ensures ∙ not-false _ c.if-not-fits.false-raw))
 
-returns-3 : tie.Need-returns-3
-returns-3 c = round_in c.before.before.before.before.before.before.before.before.before.before.before.before.before.before.args.table.now c.before.before.before.before.before.before.before.before.before.before.before.before.before.before.args.images.now (together c.before.before.before.before.before.before.before.before.before.before.before.before.before.before.args.paused.now c.before.before.before.before.before.before.before.before.before.before.before.before.before.before.args.states.now c.before.before.before.before.before.before.before.before.before.before.before.before.before.before.args.answers.now) c.before.before.before.before.before.before.before.before.before.before.if1.false (sym (not-false _ c.before.before.before.before.before.before.before.before.if2.false) ∙ c.before.before.before.before.before.before.before.before.before.in_limit.ensures) (together c.before.before.before.before.visit-all.new.0 c.before.before.before.before.visit-all.new.1.1.0 c.before.before.before.before.visit-all.new.1.1.1.1.0) c.before.before.before.before.visit-all.ensures
+returns-3 : tie.Need-returns
+returns-3 c = round_in c.args.table.now c.args.images.now (together c.args.paused.now c.args.states.now c.args.answers.now) c.if-table-lt1.false (sym (not-false _ c.if-not-fits.false-raw) ∙ c.in_limit-fits.ensures) (together c.visit_all.new.paused c.visit_all.new.states c.visit_all.new.answers) c.visit_all.ensures
 
 pub round_spec : {M : Type 1} → statement M
 round_spec =

@@ -11,33 +11,32 @@ use borrow.Author.Rules.{rules}
 use Rattle.rounds.proofs.visit.Statement.{statement}
 use Rattle.rounds.proofs.visit.Tie as tie
 
-returns : tie.Need-returns
-returns c = (visit_out c.before.before.before.args.image.now c.before.before.before.args.share c.before.before.before.args.paused.now c.before.before.before.args.state.now (sym (not-true _ c.if1.true) ∙ c.before.share-fits.ensures), (omega arith, omega arith))
+returns : tie.Need-returns-then-not-fits
+returns c = (visit_out c.args.image.now c.args.share c.args.paused.now c.args.state.now (sym (not-true _ c.if-not-fits.true-raw) ∙ c.share_fits-fits.ensures), (omega arith, omega arith))
 
-returns-2 : tie.Need-returns-2
+returns-2 : tie.Need-returns-in-Done
 returns-2 c = (
-  visit_gives c.before.before.before.before.before.before.before.before.before.before.before.before.before.before.args.image.now c.before.before.before.before.before.before.before.before.before.before.before.before.before.before.args.share c.before.before.before.before.before.before.before.before.before.before.before.before.before.before.args.paused.now c.before.before.before.before.before.before.before.before.before.before.before.before.before.before.args.state.now (sym (not-false _ c.before.before.before.before.before.before.before.before.before.before.before.if1.false) ∙ c.before.before.before.before.before.before.before.before.before.before.before.before.share-fits.ensures) c.before.before.before.before.before.before.before.before.begin.result _ c.before.before.before.before.before.before.before.before.begin.ensures.0 _ c.before.before.give.ensures.0
-      (ap (λ (b : Response). visit_from c.before.before.before.before.before.before.before.before.before.before.before.before.before.before.args.image.now c.before.before.before.before.before.before.before.before.before.before.before.before.before.before.args.share c.before.before.before.before.before.before.before.before.before.before.before.before.before.before.args.state.now b c.before.before.before.before.before.before.before.before.begin.new.0) c.before.before.before.before.before.enum_told.given.1),
-  c.before.before.give.ensures.1,
+  visit_gives c.args.image.now c.args.share c.args.paused.now c.args.state.now (sym (not-false _ c.if-not-fits.false-raw) ∙ c.share_fits-fits.ensures) c.begin-begun.result _ c.begin-begun.ensures.0 _ c.give.ensures.0
+      (ap (λ (b : Response). visit_from c.args.image.now c.args.share c.args.state.now b c.begin-begun.new.paused) c.in-Done.is),
+  c.give.ensures.1,
 )
 
-returns-3 : tie.Need-returns-3
+returns-3 : tie.Need-returns-in-Refused
 returns-3 c =
-    let k = c.before.begun.given in
-    (visit_refused c.before.before.before.before.before.before.before.before.before.before.args.image.now c.before.before.before.before.before.before.before.before.before.before.args.share c.before.before.before.before.before.before.before.before.before.before.args.paused.now c.before.before.before.before.before.before.before.before.before.before.args.state.now (sym (not-false _ c.before.before.before.before.before.before.before.if1.false) ∙ c.before.before.before.before.before.before.before.before.share-fits.ensures) c.before.before.before.before.begin.result _ c.before.before.before.before.begin.ensures.0 k.0.0 k.0.1.0 k.0.1.1.0 k.1, subst (ResponseWithin image_limit) k.1 c.before.before.before.before.begin.ensures.1)
+    (visit_refused c.args.image.now c.args.share c.args.paused.now c.args.state.now (sym (not-false _ c.if-not-fits.false-raw) ∙ c.share_fits-fits.ensures) c.begin-begun.result _ c.begin-begun.ensures.0 c.in-Refused.number c.in-Refused.place c.in-Refused.n c.in-Refused.is, subst (ResponseWithin image_limit) c.in-Refused.is c.begin-begun.ensures.1)
 
-returns-4 : tie.Need-returns-4
+returns-4 : tie.Need-returns-in-Unfinished
 returns-4 c = (
-  visit_gives c.before.before.before.before.before.before.before.before.before.before.before.before.before.before.args.image.now c.before.before.before.before.before.before.before.before.before.before.before.before.before.before.args.share c.before.before.before.before.before.before.before.before.before.before.before.before.before.before.args.paused.now c.before.before.before.before.before.before.before.before.before.before.before.before.before.before.args.state.now (sym (not-false _ c.before.before.before.before.before.before.before.before.before.before.before.if1.false) ∙ c.before.before.before.before.before.before.before.before.before.before.before.before.share-fits.ensures) c.before.before.before.before.before.before.before.before.begin.result _ c.before.before.before.before.before.before.before.before.begin.ensures.0 _ c.before.before.give2.ensures.0
-      (ap (λ (b : Response). visit_from c.before.before.before.before.before.before.before.before.before.before.before.before.before.before.args.image.now c.before.before.before.before.before.before.before.before.before.before.before.before.before.before.args.share c.before.before.before.before.before.before.before.before.before.before.before.before.before.before.args.state.now b c.before.before.before.before.before.before.before.before.begin.new.0) c.before.before.before.before.before.enum-told2.given.1),
-  c.before.before.give2.ensures.1,
+  visit_gives c.args.image.now c.args.share c.args.paused.now c.args.state.now (sym (not-false _ c.if-not-fits.false-raw) ∙ c.share_fits-fits.ensures) c.begin-begun.result _ c.begin-begun.ensures.0 _ c.give-in-Unfinished.ensures.0
+      (ap (λ (b : Response). visit_from c.args.image.now c.args.share c.args.state.now b c.begin-begun.new.paused) c.in-Unfinished.is),
+  c.give-in-Unfinished.ensures.1,
 )
 
-returns-5 : tie.Need-returns-5
+returns-5 : tie.Need-returns-in-Idle
 returns-5 c = (
-  visit_gives c.before.before.before.before.before.before.before.before.before.before.before.before.before.before.args.image.now c.before.before.before.before.before.before.before.before.before.before.before.before.before.before.args.share c.before.before.before.before.before.before.before.before.before.before.before.before.before.before.args.paused.now c.before.before.before.before.before.before.before.before.before.before.before.before.before.before.args.state.now (sym (not-false _ c.before.before.before.before.before.before.before.before.before.before.before.if1.false) ∙ c.before.before.before.before.before.before.before.before.before.before.before.before.share-fits.ensures) c.before.before.before.before.before.before.before.before.begin.result _ c.before.before.before.before.before.before.before.before.begin.ensures.0 _ c.before.before.give3.ensures.0
-      (ap (λ (b : Response). visit_from c.before.before.before.before.before.before.before.before.before.before.before.before.before.before.args.image.now c.before.before.before.before.before.before.before.before.before.before.before.before.before.before.args.share c.before.before.before.before.before.before.before.before.before.before.before.before.before.before.args.state.now b c.before.before.before.before.before.before.before.before.begin.new.0) c.before.before.before.before.before.enum-told3.given.1),
-  c.before.before.give3.ensures.1,
+  visit_gives c.args.image.now c.args.share c.args.paused.now c.args.state.now (sym (not-false _ c.if-not-fits.false-raw) ∙ c.share_fits-fits.ensures) c.begin-begun.result _ c.begin-begun.ensures.0 _ c.give-in-Idle.ensures.0
+      (ap (λ (b : Response). visit_from c.args.image.now c.args.share c.args.state.now b c.begin-begun.new.paused) c.in-Idle.is),
+  c.give-in-Idle.ensures.1,
 )
 
 pub visit_spec : {M : Type 1} → statement M

@@ -10,13 +10,13 @@ use Rattle.shapes.proofs.Measuring.{same_times}
 use Rattle.shapes.proofs.measure_times.Statement.{statement}
 use Rattle.shapes.proofs.measure_times.Tie as tie
 
-place-times-requires : tie.Need-place-times-requires
+place-times-requires : tie.Need-place_times-requires
 place-times-requires c κs =
-    let code = c.before.before.before.before.before.before.before.before.before.args.code.now in
-    subst (λ (l : List ℕ). (length l ≤ 64) × ((t : ℕ) → get_or l t 0 ≤ 2147483647)) (sym c.before.before.before.before.before.timer-limits.ensures) (omega (arith, c.before.before.before.before.before.before.before.before.before.requires.0, length_limits code (length code) 0 c.before.before.before.before.before.before.before.before.before.args.table.now), c.before.before.before.before.before.before.before.before.before.requires.1)
+    let code = c.args.code.now in
+    subst (λ (l : List ℕ). (length l ≤ 64) × ((t : ℕ) → get_or l t 0 ≤ 2147483647)) (sym c.timer_limits.ensures) (omega (arith, c.requires.0, length_limits code (length code) 0 c.args.table.now), c.requires.1)
 
 returns : tie.Need-returns
-returns c = same_times c.before.before.before.before.before.before.before.before.timer-limits.ensures c.before.before.place-times.ensures
+returns c = same_times c.timer_limits.ensures c.place_times.ensures
 
 pub measure_times_spec : {M : Type 1} → statement M
 measure_times_spec =

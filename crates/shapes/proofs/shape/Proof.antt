@@ -5,14 +5,14 @@ use Rattle.checker.specs.Results.{surveyed_answer, SurveyedBy}
 use Rattle.shapes.proofs.shape.Statement.{statement}
 use Rattle.shapes.proofs.shape.Tie as tie
 
-shape-plain-requires : tie.Need-shape-plain-requires
-shape-plain-requires c κs = (sym c.before.before.before.before.survey.ensures.0 ∙ ap surveyed_answer c.before.before.enum_told.given.1, subst (SurveyedBy c.before.before.before.before.before.before.args.image.now) c.before.before.enum_told.given.1 c.before.before.before.before.survey.ensures.1)
+shape-plain-requires : tie.Need-shape_plain-requires
+shape-plain-requires c κs = (sym c.survey.ensures.0 ∙ ap surveyed_answer c.in-Plain.is, subst (SurveyedBy c.args.image.now) c.in-Plain.is c.survey.ensures.1)
 
-shape-timed-requires : tie.Need-shape-timed-requires
-shape-timed-requires c κs = sym c.before.before.before.before.survey.ensures.0 ∙ ap surveyed_answer c.before.before.enum-told2.given.1
+shape-timed-requires : tie.Need-shape_timed-requires
+shape-timed-requires c κs = sym c.survey.ensures.0 ∙ ap surveyed_answer c.in-Timed.is
 
-returns-3 : tie.Need-returns-3
-returns-3 c = record { so = (sym c.before.before.before.survey.ensures.0 ∙ ap surveyed_answer c.before.number.given.1, subst (SurveyedBy c.before.before.before.before.before.args.image.now) c.before.number.given.1 c.before.before.before.survey.ensures.1) }
+returns-3 : tie.Need-returns-in-Refused
+returns-3 c = record { so = (sym c.survey.ensures.0 ∙ ap surveyed_answer c.in-Refused.is, subst (SurveyedBy c.args.image.now) c.in-Refused.is c.survey.ensures.1) }
 
 pub shape_spec : {M : Type 1} → statement M
 shape_spec =

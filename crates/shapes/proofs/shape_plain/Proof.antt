@@ -5,11 +5,11 @@ use Rattle.shapes.proofs.Measuring.{plain_measures}
 use Rattle.shapes.proofs.shape_plain.Statement.{statement}
 use Rattle.shapes.proofs.shape_plain.Tie as tie
 
-returns : tie.Need-returns
-returns c = header_not_broken c.before.before.before.before.before.before.before.before.before.before.before.args.image.now c.before.before.before.before.before.before.before.before.before.before.before.requires.0 _ (headed_broken c.before.before.before.before.before.before.header.ensures c.before.place.given.1).0
+returns : tie.Need-returns-in-Broken
+returns c = header_not_broken c.args.image.now c.requires.0 _ (headed_broken c.header.ensures c.in-Broken.is).0
 
-returns-2 : tie.Need-returns-2
-returns-2 c = record { so = plain_measures c.before.before.before.before.before.before.before.before.before.before.before.args.image.now (headed_stands c.before.before.before.before.before.before.header.ensures c.before.inputs.given.1) c.before.before.before.before.before.before.before.before.before.before.before.requires.0 c.before.before.before.before.before.before.before.before.before.before.before.requires.1 }
+returns-2 : tie.Need-returns-in-Header
+returns-2 c = record { so = plain_measures c.args.image.now (headed_stands c.header.ensures c.in-Header.is) c.requires.0 c.requires.1 }
 
 pub shape_plain_spec : {M : Type 1} → statement M
 shape_plain_spec =

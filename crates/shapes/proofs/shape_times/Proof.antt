@@ -13,38 +13,38 @@ use Rattle.shapes.proofs.Measuring.{table_long, table_zeros, same_times, limits_
 use Rattle.shapes.proofs.shape_times.Statement.{statement}
 use Rattle.shapes.proofs.shape_times.Tie as tie
 
-sub-measure-times : tie.Need-overflow-sub-measure-times
-sub-measure-times c = (headed_stands c.before.before.before.before.before.before.header.ensures c.before.inputs.given.1).extends.inside
+sub-measure-times : tie.Need-slice_bounds-measure_times-count
+sub-measure-times c = (headed_stands c.header.ensures c.in-Header.is).extends.inside
 
-part-measure-times-start : tie.Need-slice-bounds-measure-times-start
-part-measure-times-start c = (headed_stands c.before.before.before.before.before.before.header.ensures c.before.inputs.given.1).extends.inside
+part-measure-times-start : tie.Need-slice_bounds-measure_times-start
+part-measure-times-start c = (headed_stands c.header.ensures c.in-Header.is).extends.inside
 
-slice-relend-prefix-measure-times : tie.Need-slice-relend-prefix-measure-times
-slice-relend-prefix-measure-times c = omega (arith, (headed_stands c.before.before.before.before.before.before.before.header.ensures c.before.before.inputs.given.1).extends.few, table_long 64 _ c.before.before.before.before.before.before.before.before.before.before.before.before.before.requires.1)
+slice-relend-prefix-measure-times : tie.Need-slice_bounds-measure_times-end-in-Header
+slice-relend-prefix-measure-times c = omega (arith, (headed_stands c.header.ensures c.in-Header.is).extends.few, table_long 64 _ c.requires.1)
 
-slice-aggregate-measure-times : tie.Need-slice-aggregate-measure-times
+slice-aggregate-measure-times : tie.Need-slice_bounds-measure_times-end-in-Header-2
 slice-aggregate-measure-times c =
-    sym (length-take-le _ _ (omega (arith, (headed_stands c.before.before.before.before.before.before.before.before.header.ensures c.before.before.before.inputs.given.1).extends.few, table_long 64 _ c.before.before.before.before.before.before.before.before.before.before.before.before.before.before.requires.1)))
+    sym (length-take-le _ _ (omega (arith, (headed_stands c.header.ensures c.in-Header.is).extends.few, table_long 64 _ c.requires.1)))
 
-measure-times-requires : tie.Need-measure-times-requires
+measure-times-requires : tie.Need-measure_times-t-requires
 measure-times-requires c κs =
-    let h = headed_stands c.before.before.before.before.before.before.before.before.before.before.header.ensures c.before.before.before.before.before.inputs.given.1 in
-    let n = c.before.before.before.before.before.inputs.given.0.1.0 in
-    let table = c.before.before.before.before.before.before.before.before.before.before.before.before.before.before.before.before.args.table.now in
-    let z = table_zeros n table h.extends.few c.before.before.before.before.before.before.before.before.before.before.before.before.before.before.before.before.requires.1 in
-    (omega (arith, h.extends.few, table_long n _ z), rw (rest_of c.before.before.before.before.before.before.before.before.before.before.before.before.before.before.before.before.args.image.now c.before.before.before.before.before.inputs.given.0.1.1.0) (limits_fit c.before.before.before.before.before.before.before.before.before.before.before.before.before.before.before.before.args.image.now h c.before.before.before.before.before.before.before.before.before.before.before.before.before.before.before.before.requires.0 (take n table) z))
+    let h = headed_stands c.header.ensures c.in-Header.is in
+    let n = c.in-Header.names in
+    let table = c.args.table.now in
+    let z = table_zeros n table h.extends.few c.requires.1 in
+    (omega (arith, h.extends.few, table_long n _ z), rw (rest_of c.args.image.now c.in-Header.place) (limits_fit c.args.image.now h c.requires.0 (take n table) z))
 
-returns : tie.Need-returns
-returns c = header_not_broken c.before.before.before.before.before.before.before.before.before.before.before.before.args.image.now c.before.before.before.before.before.before.before.before.before.before.before.before.requires.0 _ (headed_broken c.before.before.before.before.before.before.header.ensures c.before.place.given.1).0
+returns : tie.Need-returns-in-Broken
+returns c = header_not_broken c.args.image.now c.requires.0 _ (headed_broken c.header.ensures c.in-Broken.is).0
 
-returns-2 : tie.Need-returns-2
+returns-2 : tie.Need-returns-in-Header
 returns-2 c =
-    let h = headed_stands c.before.before.before.before.before.before.before.before.before.before.before.before.before.before.before.header.ensures c.before.before.before.before.before.before.before.before.before.before.inputs.given.1 in
-    let n = c.before.before.before.before.before.before.before.before.before.before.inputs.given.0.1.0 in
-    let table = c.before.before.before.before.before.before.before.before.before.before.before.before.before.before.before.before.before.before.before.before.before.args.table.now in
-    let z = table_zeros n table h.extends.few c.before.before.before.before.before.before.before.before.before.before.before.before.before.before.before.before.before.before.before.before.before.requires.1 in
-    let e = ap (λ (code : List ℕ). limits_from code (length code) 0 (take n table)) (rest_of c.before.before.before.before.before.before.before.before.before.before.before.before.before.before.before.before.before.before.before.before.before.args.image.now c.before.before.before.before.before.before.before.before.before.before.inputs.given.0.1.1.0) ∙ limits_are c.before.before.before.before.before.before.before.before.before.before.before.before.before.before.before.before.before.before.before.before.before.args.image.now h c.before.before.before.before.before.before.before.before.before.before.before.before.before.before.before.before.before.before.before.before.before.requires.0 (take n table) z in
-    record { so = timed_measures c.before.before.before.before.before.before.before.before.before.before.before.before.before.before.before.before.before.before.before.before.before.args.image.now h c.before.before.before.before.before.before.before.before.before.before.before.before.before.before.before.before.before.before.before.before.before.requires.0 (same_times e c.before.before.before.before.measure-times.ensures) }
+    let h = headed_stands c.header.ensures c.in-Header.is in
+    let n = c.in-Header.names in
+    let table = c.args.table.now in
+    let z = table_zeros n table h.extends.few c.requires.1 in
+    let e = ap (λ (code : List ℕ). limits_from code (length code) 0 (take n table)) (rest_of c.args.image.now c.in-Header.place) ∙ limits_are c.args.image.now h c.requires.0 (take n table) z in
+    record { so = timed_measures c.args.image.now h c.requires.0 (same_times e c.measure_times-t.ensures) }
 
 pub shape_times_spec : {M : Type 1} → statement M
 shape_times_spec =

@@ -35,17 +35,17 @@ decimal_before_below t =
 abbrev claims : ℕ → decimal-before-lts.Claims
 claims t = (byte-before-reads.Asked, byte-before-reads.Learnt, decimal_before_below t, decimal-before.Post)
 
-decimal_before_same_length : (t : ℕ) → decimal-before-lts.Need-same-length (claims t) (decimal_before_at t) decimal-before.Post
-decimal_before_same_length t c = c.before.before.byte-before.ensures.same
+decimal_before_same_length : (t : ℕ) → decimal-before-lts.Need-shape_of-out-then-n-lt10 (claims t) (decimal_before_at t) decimal-before.Post
+decimal_before_same_length t c = c.byte_before.ensures.same
 
-decimal_before_returns : (t : ℕ) → decimal-before-lts.Need-returns (claims t) (decimal_before_at t) decimal-before.Post
-decimal_before_returns t c = as_front (λ l. ap (λ (k : List ℕ). k ++ l) (decimal_small _ c.before.before.before.before.if1.true)) c.before.before.byte-before.ensures
+decimal_before_returns : (t : ℕ) → decimal-before-lts.Need-returns-then-n-lt10 (claims t) (decimal_before_at t) decimal-before.Post
+decimal_before_returns t c = as_front (λ l. ap (λ (k : List ℕ). k ++ l) (decimal_small _ c.if-n-lt10.true)) c.byte_before.ensures
 
-decimal_before_same_length_2 : (t : ℕ) → decimal-before-lts.Need-same-length-2 (claims t) (decimal_before_at t) decimal-before.Post
-decimal_before_same_length_2 t c = c.before.before.decimal-before.ensures.same ∙ c.before.before.before.before.before.before.byte-before2.ensures.same
+decimal_before_same_length_2 : (t : ℕ) → decimal-before-lts.Need-shape_of-out (claims t) (decimal_before_at t) decimal-before.Post
+decimal_before_same_length_2 t c = c.decimal_before.ensures.same ∙ c.byte_before-last.ensures.same
 
-decimal_before_returns_2 : (t : ℕ) → decimal-before-lts.Need-returns-2 (claims t) (decimal_before_at t) decimal-before.Post
-decimal_before_returns_2 t c = decimal_front _ _ _ _ _ _ _ c.before.before.before.before.before.before.before.before.if1.false c.before.before.before.before.before.before.byte-before2.ensures c.before.before.decimal-before.ensures
+decimal_before_returns_2 : (t : ℕ) → decimal-before-lts.Need-returns (claims t) (decimal_before_at t) decimal-before.Post
+decimal_before_returns_2 t c = decimal_front _ _ _ _ _ _ _ c.if-n-lt10.false c.byte_before-last.ensures c.decimal_before.ensures
 
 pub +decimal_before_spec : {M : Type 1} → statement M
 +decimal_before_spec = close μ_decimal_before λ t. decimal-before-lts.spec (claims t)

@@ -10,44 +10,44 @@ use Rattle.st_writer.proofs.Copied.{Copying, copy_starts, copy_broken, copy_time
 use Rattle.st_writer.proofs.mirror.Statement.{statement}
 use Rattle.st_writer.proofs.mirror.Tie as tie
 
-abbrev invariant_loop : tie.invariant_loop
+abbrev invariant_loop : tie.invariant-loop-at
 invariant_loop code out₀ at₀ to₀ out at to = (length out ≡ length out₀) × Copying code at out₀ out to
 
-abbrev decreases_loop : tie.decreases_loop
+abbrev decreases_loop : tie.decreases-loop-at
 decreases_loop code out₀ at₀ to₀ out at to = length code - at
 
-sub-bytes-before : tie.Need-overflow-sub-bytes-before invariant_loop decreases_loop
-sub-bytes-before c = let b = subst (FetchedWithin (length c.before.before.before.before.before.before.before.before.before.args.code.now) c.before.before.before.before.before.before.loop.at) c.before.before.next.given.1 c.before.before.before.before.fetch.ensures.1 in omega (arith, b.behind)
+sub-bytes-before : tie.Need-slice_bounds-bytes_before-count invariant_loop decreases_loop
+sub-bytes-before c = let b = subst (FetchedWithin (length c.args.code.now) c.loop-at.at) c.in-Instruction.is c.fetch.ensures.1 in omega (arith, b.behind)
 
-part-bytes-before-start : tie.Need-slice-bounds-bytes-before-start invariant_loop decreases_loop
-part-bytes-before-start c = let b = subst (FetchedWithin (length c.before.before.before.before.before.before.before.before.before.args.code.now) c.before.before.before.before.before.before.loop.at) c.before.before.next.given.1 c.before.before.before.before.fetch.ensures.1 in omega (arith, b.behind)
+part-bytes-before-start : tie.Need-slice_bounds-bytes_before-start invariant_loop decreases_loop
+part-bytes-before-start c = let b = subst (FetchedWithin (length c.args.code.now) c.loop-at.at) c.in-Instruction.is c.fetch.ensures.1 in omega (arith, b.behind)
 
-part-bytes-before-end : tie.Need-slice-bounds-bytes-before-end invariant_loop decreases_loop
-part-bytes-before-end c = let b = subst (FetchedWithin (length c.before.before.before.before.before.before.before.before.before.args.code.now) c.before.before.before.before.before.before.loop.at) c.before.before.next.given.1 c.before.before.before.before.fetch.ensures.1 in omega (arith, b.inside)
+part-bytes-before-end : tie.Need-slice_bounds-bytes_before-end invariant_loop decreases_loop
+part-bytes-before-end c = let b = subst (FetchedWithin (length c.args.code.now) c.loop-at.at) c.in-Instruction.is c.fetch.ensures.1 in omega (arith, b.inside)
 
-loop-less : tie.Need-loop-smaller invariant_loop decreases_loop
-loop-less c = let b = subst (FetchedWithin (length c.before.before.before.before.before.before.before.before.before.before.before.before.before.args.code.now) c.before.before.before.before.before.before.before.before.before.before.loop.at) c.before.before.before.before.before.before.next.given.1 c.before.before.before.before.before.before.before.before.fetch.ensures.1 in omega (arith, b.behind, c.before.before.before.before.before.before.before.before.before.loop-test.true)
+loop-less : tie.Need-loop-at-smaller invariant_loop decreases_loop
+loop-less c = let b = subst (FetchedWithin (length c.args.code.now) c.loop-at.at) c.in-Instruction.is c.fetch.ensures.1 in omega (arith, b.behind, c.loop-at-test.true)
 
-loop-again : tie.Need-loop-preserved invariant_loop decreases_loop
-loop-again c = (c.before.before.bytes-before.ensures.same ∙ c.before.before.before.before.before.before.before.before.before.before.loop.invariant.0, copy_goes _ _ _ (instruction_of c.before.before.before.before.before.before.next.given.0.0 c.before.before.before.before.before.before.next.given.0.1.0) _ _ _ _ _ c.before.before.before.before.before.before.before.before.before.loop-test.true (sym (ap fetched_read c.before.before.before.before.before.before.next.given.1) ∙ c.before.before.before.before.before.before.before.before.fetch.ensures.0) c.before.before.before.before.before.before.before.before.before.before.loop.invariant.1 c.before.before.bytes-before.ensures)
+loop-again : tie.Need-loop-at-preserved invariant_loop decreases_loop
+loop-again c = (c.bytes_before-to.ensures.same ∙ c.loop-at.invariant.0, copy_goes _ _ _ (instruction_of c.in-Instruction.field-0 c.in-Instruction.field-1) _ _ _ _ _ c.loop-at-test.true (sym (ap fetched_read c.in-Instruction.is) ∙ c.fetch.ensures.0) c.loop-at.invariant.1 c.bytes_before-to.ensures)
 
-same_length : tie.Need-same-length invariant_loop decreases_loop
-same_length c = c.before.before.before.before.loop.invariant.0
+same_length : tie.Need-shape_of-out-in-Timer invariant_loop decreases_loop
+same_length c = c.loop-at.invariant.0
 
-returns : tie.Need-returns invariant_loop decreases_loop
-returns c = λ p t z e. absurd (copy_timer _ _ _ _ _ _ _ _ _ c.before.before.before.loop-test.true (sym (ap fetched_read c.enum_told.given.1) ∙ c.before.before.fetch.ensures.0) c.before.before.before.before.loop.invariant.1 p t z e)
+returns : tie.Need-returns-in-Timer invariant_loop decreases_loop
+returns c = λ p t z e. absurd (copy_timer _ _ _ _ _ _ _ _ _ c.loop-at-test.true (sym (ap fetched_read c.in-Timer.is) ∙ c.fetch.ensures.0) c.loop-at.invariant.1 p t z e)
 
-same-length-2 : tie.Need-same-length-2 invariant_loop decreases_loop
-same-length-2 c = c.before.before.before.before.loop.invariant.0
+same-length-2 : tie.Need-shape_of-out-in-Malformed invariant_loop decreases_loop
+same-length-2 c = c.loop-at.invariant.0
 
-returns-2 : tie.Need-returns-2 invariant_loop decreases_loop
-returns-2 c = λ p t z e. absurd (copy_broken _ _ _ _ _ c.before.before.before.loop-test.true (sym (ap fetched_read c.enum-told2.given.1) ∙ c.before.before.fetch.ensures.0) c.before.before.before.before.loop.invariant.1 p t z e)
+returns-2 : tie.Need-returns-in-Malformed invariant_loop decreases_loop
+returns-2 c = λ p t z e. absurd (copy_broken _ _ _ _ _ c.loop-at-test.true (sym (ap fetched_read c.in-Malformed.is) ∙ c.fetch.ensures.0) c.loop-at.invariant.1 p t z e)
 
-same-length-3 : tie.Need-same-length-3 invariant_loop decreases_loop
-same-length-3 c = c.before.loop.invariant.0
+same-length-3 : tie.Need-shape_of-out invariant_loop decreases_loop
+same-length-3 c = c.loop-at.invariant.0
 
-returns-3 : tie.Need-returns-3 invariant_loop decreases_loop
-returns-3 c = λ p t z e. copy_ends _ _ _ _ _ c.loop-test.false c.before.before.before.before.requires c.before.loop.invariant.1 p t z e
+returns-3 : tie.Need-returns invariant_loop decreases_loop
+returns-3 c = λ p t z e. copy_ends _ _ _ _ _ c.loop-at-test.false c.requires c.loop-at.invariant.1 p t z e
 
 pub mirror_spec : {M : Type 1} → statement M
 mirror_spec =

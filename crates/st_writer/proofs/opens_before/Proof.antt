@@ -6,20 +6,20 @@ use Rattle.st_writer.proofs.opens_before.Statement.{statement}
 use Rattle.st_writer.proofs.opens_before.Tie as tie
 use Rattle.st_writer.proofs.Laws.{opens_more, opens_none, opens_all}
 
-abbrev invariant_loop : tie.invariant_loop
+abbrev invariant_loop : tie.invariant-loop-left
 invariant_loop out₀ to n left₀ place₀ out left place = (left ≤ n) × Fronts (openings (n - left)) out₀ out to place
 
-abbrev decreases_loop : tie.decreases_loop
+abbrev decreases_loop : tie.decreases-loop-left
 decreases_loop out₀ to n left₀ place₀ out left place = left
 
-loop-again : tie.Need-loop-preserved invariant_loop decreases_loop
-loop-again c = let l = c.before.before.before.before.before.loop.invariant in (omega arith, opens_more _ _ _ _ _ _ _ _ (search rules) l.0 l.1 c.before.before.byte-before.ensures)
+loop-again : tie.Need-loop-left-preserved invariant_loop decreases_loop
+loop-again c = let l = c.loop-left.invariant in (omega arith, opens_more _ _ _ _ _ _ _ _ (search rules) l.0 l.1 c.byte_before-place.ensures)
 
-same_length : tie.Need-same-length invariant_loop decreases_loop
-same_length c = c.before.loop.invariant.1.same
+same_length : tie.Need-shape_of-out invariant_loop decreases_loop
+same_length c = c.loop-left.invariant.1.same
 
 returns : tie.Need-returns invariant_loop decreases_loop
-returns c = opens_all _ _ _ _ _ _ (search rules) c.before.loop.invariant.1
+returns c = opens_all _ _ _ _ _ _ (search rules) c.loop-left.invariant.1
 
 pub opens_before_spec : {M : Type 1} → statement M
 opens_before_spec =

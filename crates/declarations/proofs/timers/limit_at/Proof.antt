@@ -11,34 +11,34 @@ use borrow.Author.Rules.{rules}
 use Rattle.declarations.proofs.timers.limit_at.Statement.{statement}
 use Rattle.declarations.proofs.timers.limit_at.Tie as tie
 
-returns : tie.Need-returns
+returns : tie.Need-returns-in_default
 returns c =
-    let f = is_fault _ _ _ c.before.before.token-at.ensures _ _ c.enum_told.given.1 in
-    (ap (parsed_of number_told) c.enum_told.given.1 ∙ rw f.1 (sym (n_fault _ _ _ f.0)), λ x e. step_refused _ _ x (sym c.enum_told.given.1 ∙ e))
+    let f = is_fault _ _ _ c.token_at-read.ensures _ _ c.in_default.is in
+    (ap (parsed_of number_told) c.in_default.is ∙ rw f.1 (sym (n_fault _ _ _ f.0)), λ x e. step_refused _ _ x (sym c.in_default.is ∙ e))
 
-returns-2 : tie.Need-returns-2
+returns-2 : tie.Need-returns-then-token-ne-DIGITS
 unfolding kind_number
 returns-2 c =
-    let l = is_token _ _ _ c.before.before.before.before.before.token-at.ensures _ c.before.before.before.read.given.1 in
-    (sym (n_no_digits _ _ _ _ _ l.0 (kind_is_not _ digits l.1.known_kind c.if1.true)), λ x e. step_refused _ _ x e)
+    let l = is_token _ _ _ c.token_at-read.ensures _ c.in-Done.is in
+    (sym (n_no_digits _ _ _ _ _ l.0 (kind_is_not _ digits l.1.known_kind c.if-token-ne-DIGITS.true)), λ x e. step_refused _ _ x e)
 
-returns-3 : tie.Need-returns-3
+returns-3 : tie.Need-returns-then-value-lt1
 unfolding kind_number
 returns-3 c =
-    let l = is_token _ _ _ c.before.before.before.before.before.before.before.before.token-at.ensures _ c.before.before.before.before.before.before.read.given.1 in
-    (sym (n_low _ _ _ _ _ l.0 (kind_is _ digits c.before.before.before.if1.false) _ (rw c.before.before.name.ensures at c.before.value.ensures) c.if2.true), λ x e. step_refused _ _ x e)
+    let l = is_token _ _ _ c.token_at-read.ensures _ c.in-Done.is in
+    (sym (n_low _ _ _ _ _ l.0 (kind_is _ digits c.if-token-ne-DIGITS.false) _ (rw c.name.ensures at c.value-value.ensures) c.if-value-lt1.true), λ x e. step_refused _ _ x e)
 
-returns-4 : tie.Need-returns-4
+returns-4 : tie.Need-returns-then-value-gt-TIME_LIMIT
 unfolding kind_number
 returns-4 c =
-    let l = is_token _ _ _ c.before.before.before.before.before.before.before.before.before.token-at.ensures _ c.before.before.before.before.before.before.before.read.given.1 in
-    (sym (n_high _ _ _ _ _ l.0 (kind_is _ digits c.before.before.before.before.if1.false) _ (rw c.before.before.before.name.ensures at c.before.before.value.ensures) c.before.if2.false c.if3.true), λ x e. step_refused _ _ x e)
+    let l = is_token _ _ _ c.token_at-read.ensures _ c.in-Done.is in
+    (sym (n_high _ _ _ _ _ l.0 (kind_is _ digits c.if-token-ne-DIGITS.false) _ (rw c.name.ensures at c.value-value.ensures) c.if-value-lt1.false c.if-value-gt-TIME_LIMIT.true), λ x e. step_refused _ _ x e)
 
-returns-5 : tie.Need-returns-5
+returns-5 : tie.Need-returns
 unfolding kind_number
 returns-5 c =
-    let l = is_token _ _ _ c.before.before.before.before.before.before.before.before.before.before.token-at.ensures _ c.before.before.before.before.before.before.before.before.read.given.1 in
-    (ap (parsed_of number_told) c.reached.ensures ∙ sym (n_in _ _ _ _ _ l.0 (kind_is _ digits c.before.before.before.before.before.if1.false) _ (rw c.before.before.before.before.name.ensures at c.before.before.before.value.ensures) c.before.before.if2.false c.before.if3.false), λ x e. rw (ap (λ (y : Place). y.number) (done_place (sym e ∙ c.reached.ensures))) c.before.if3.false)
+    let l = is_token _ _ _ c.token_at-read.ensures _ c.in-Done.is in
+    (ap (parsed_of number_told) c.reached.ensures ∙ sym (n_in _ _ _ _ _ l.0 (kind_is _ digits c.if-token-ne-DIGITS.false) _ (rw c.name.ensures at c.value-value.ensures) c.if-value-lt1.false c.if-value-gt-TIME_LIMIT.false), λ x e. rw (ap (λ (y : Place). y.number) (done_place (sym e ∙ c.reached.ensures))) c.if-value-gt-TIME_LIMIT.false)
 
 pub limit_at_spec : {M : Type 1} → statement M
 limit_at_spec =

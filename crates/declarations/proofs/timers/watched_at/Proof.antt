@@ -14,65 +14,65 @@ use borrow.Author.Rules.{rules}
 use Rattle.declarations.proofs.timers.watched_at.Statement.{statement}
 use Rattle.declarations.proofs.timers.watched_at.Tie as tie
 
-returns : tie.Need-returns
+returns : tie.Need-returns-in_default
 returns c = (
   λ names w.
-      let f = is_fault _ _ _ c.before.before.token-at.ensures _ _ c.enum_told.given.1 in
-      ap (parsed_of number_told) c.enum_told.given.1 ∙ rw f.1 (sym (w_fault _ _ _ _ _ _ f.0)),
-  λ x e. step_refused _ _ x (sym c.enum_told.given.1 ∙ e),
+      let f = is_fault _ _ _ c.token_at-read.ensures _ _ c.in_default.is in
+      ap (parsed_of number_told) c.in_default.is ∙ rw f.1 (sym (w_fault _ _ _ _ _ _ f.0)),
+  λ x e. step_refused _ _ x (sym c.in_default.is ∙ e),
 )
 
-returns-2 : tie.Need-returns-2
+returns-2 : tie.Need-returns-then-token-ne-NAME
 unfolding kind_number
 returns-2 c = (
   λ names w.
-      let l = is_token _ _ _ c.before.before.before.before.before.token-at.ensures _ c.before.before.before.read.given.1 in
-      sym (w_no_name _ _ _ _ _ _ _ _ l.0 (kind_is_not _ name l.1.known_kind c.if1.true)),
+      let l = is_token _ _ _ c.token_at-read.ensures _ c.in-Done.is in
+      sym (w_no_name _ _ _ _ _ _ _ _ l.0 (kind_is_not _ name l.1.known_kind c.if-token-ne-NAME.true)),
   λ x e. step_refused _ _ x e,
 )
 
-returns-3 : tie.Need-returns-3
+returns-3 : tie.Need-returns-then-is_over_long
 unfolding kind_number
 returns-3 c = (
   λ names w.
-      let l = is_token _ _ _ c.before.before.before.before.before.before.before.token-at.ensures _ c.before.before.before.before.before.read.given.1 in
-      sym (w_long _ _ _ _ _ _ _ _ l.0 (kind_is _ name c.before.before.if1.false) (sym c.before.is-over-long.ensures ∙ c.if2.true)),
+      let l = is_token _ _ _ c.token_at-read.ensures _ c.in-Done.is in
+      sym (w_long _ _ _ _ _ _ _ _ l.0 (kind_is _ name c.if-token-ne-NAME.false) (sym c.is_over_long.ensures ∙ c.if-is_over_long.true)),
   λ x e. step_refused _ _ x e,
 )
 
-returns-4 : tie.Need-returns-4
+returns-4 : tie.Need-returns-in_default-found
 unfolding kind_number
 returns-4 c = (
   λ names w.
-      let l = is_token _ _ _ c.before.before.before.before.before.before.before.before.before.before.before.token-at.ensures _ c.before.before.before.before.before.before.before.before.before.read.given.1 in
-      sym (w_unknown _ _ _ _ _ _ _ _ l.0 (kind_is _ name c.before.before.before.before.before.before.if1.false) (sym c.before.before.before.before.before.is-over-long.ensures ∙ c.before.before.before.before.if2.false)
-      (rw w.table.spelled at (sym (c.before.before.find.ensures ∙ ap (id_of _) c.before.before.before.name.ensures) ∙ ap found_id c.enum-told2.given.1))),
+      let l = is_token _ _ _ c.token_at-read.ensures _ c.in-Done.is in
+      sym (w_unknown _ _ _ _ _ _ _ _ l.0 (kind_is _ name c.if-token-ne-NAME.false) (sym c.is_over_long.ensures ∙ c.if-is_over_long.false)
+      (rw w.table.spelled at (sym (c.find-found.ensures ∙ ap (id_of _) c.name.ensures) ∙ ap found_id c.in_default-found.is))),
   λ x e. step_refused _ _ x e,
 )
 
-returns-5 : tie.Need-returns-5
+returns-5 : tie.Need-returns-then-is_watchable
 unfolding kind_number
 returns-5 c = (
   λ names w.
-      let l = is_token _ _ _ c.before.before.before.before.before.before.before.before.before.before.before.before.before.before.before.token-at.ensures _ c.before.before.before.before.before.before.before.before.before.before.before.before.before.read.given.1 in
+      let l = is_token _ _ _ c.token_at-read.ensures _ c.in-Done.is in
       ap (parsed_of number_told) c.reached.ensures
-      ∙ sym (w_found _ _ _ _ _ _ _ _ l.0 (kind_is _ name c.before.before.before.before.before.before.before.before.before.before.if1.false) (sym c.before.before.before.before.before.before.before.before.before.is-over-long.ensures ∙ c.before.before.before.before.before.before.before.before.if2.false) _
-      (rw w.table.spelled at (sym (c.before.before.before.before.before.before.find.ensures ∙ ap (id_of _) c.before.before.before.before.before.before.before.name.ensures) ∙ ap found_id c.before.before.before.before.found.given.1)) (sym (c.before.before.is-watchable.ensures.0 _ _ names w) ∙ c.before.if3.true)),
-  λ x e. rw (ap (λ (y : Place). y.number) (done_place (sym e ∙ c.reached.ensures))) (let m = c.before.before.is-watchable.ensures.1 c.before.if3.true in omega (arith, m, c.before.before.before.before.before.before.before.before.before.before.before.before.before.before.before.before.before.before.before.requires.1)),
+      ∙ sym (w_found _ _ _ _ _ _ _ _ l.0 (kind_is _ name c.if-token-ne-NAME.false) (sym c.is_over_long.ensures ∙ c.if-is_over_long.false) _
+      (rw w.table.spelled at (sym (c.find-found.ensures ∙ ap (id_of _) c.name.ensures) ∙ ap found_id c.in-At.is)) (sym (c.is_watchable.ensures.0 _ _ names w) ∙ c.if-is_watchable.true)),
+  λ x e. rw (ap (λ (y : Place). y.number) (done_place (sym e ∙ c.reached.ensures))) (let m = c.is_watchable.ensures.1 c.if-is_watchable.true in omega (arith, m, c.requires.1)),
 )
 
-returns-6 : tie.Need-returns-6
+returns-6 : tie.Need-returns
 unfolding kind_number
 returns-6 c = (
   λ names w.
-      let l = is_token _ _ _ c.before.before.before.before.before.before.before.before.before.before.before.before.before.before.token-at.ensures _ c.before.before.before.before.before.before.before.before.before.before.before.before.read.given.1 in
-      sym (w_wrong _ _ _ _ _ _ _ _ l.0 (kind_is _ name c.before.before.before.before.before.before.before.before.before.if1.false) (sym c.before.before.before.before.before.before.before.before.is-over-long.ensures ∙ c.before.before.before.before.before.before.before.if2.false) _
-      (rw w.table.spelled at (sym (c.before.before.before.before.before.find.ensures ∙ ap (id_of _) c.before.before.before.before.before.before.name.ensures) ∙ ap found_id c.before.before.before.found.given.1)) (sym (c.before.is-watchable.ensures.0 _ _ names w) ∙ c.if3.false)),
+      let l = is_token _ _ _ c.token_at-read.ensures _ c.in-Done.is in
+      sym (w_wrong _ _ _ _ _ _ _ _ l.0 (kind_is _ name c.if-token-ne-NAME.false) (sym c.is_over_long.ensures ∙ c.if-is_over_long.false) _
+      (rw w.table.spelled at (sym (c.find-found.ensures ∙ ap (id_of _) c.name.ensures) ∙ ap found_id c.in-At.is)) (sym (c.is_watchable.ensures.0 _ _ names w) ∙ c.if-is_watchable.false)),
   λ x e. step_refused _ _ x e,
 )
 
-is-watchable-requires : tie.Need-is-watchable-requires
-is-watchable-requires c κs = omega (arith, c.before.before.before.before.before.before.before.before.before.before.before.before.before.before.before.before.requires.0.in_ends, c.before.before.before.before.before.before.before.before.before.before.before.before.before.before.before.before.requires.1)
+is-watchable-requires : tie.Need-is_watchable-requires
+is-watchable-requires c κs = omega (arith, c.requires.0.in_ends, c.requires.1)
 
 pub watched_at_spec : {M : Type 1} → statement M
 watched_at_spec =

@@ -9,30 +9,29 @@ use Rattle.expressions.proofs.Scopes.{all_next, all_stop, all_end}
 use Rattle.expressions.proofs.scope.all_known.Statement.{statement}
 use Rattle.expressions.proofs.scope.all_known.Tie as tie
 
-abbrev invariant_loop : tie.invariant_loop
+abbrev invariant_loop : tie.invariant-loop-i
 invariant_loop names i₀ i =
     (i ≤ names.count) × (all_true (drop i (flags_of names.count names.known)) ≡ all_true (flags_of names.count names.known))
 
-abbrev decreases_loop : tie.decreases_loop
+abbrev decreases_loop : tie.decreases-loop-i
 decreases_loop names i₀ i = names.count - i
 
-is-known-requires : tie.Need-is-known-requires invariant_loop decreases_loop
-is-known-requires c κs = (c.if1.true, c.before.before.before.requires)
+is-known-requires : tie.Need-is_known-requires invariant_loop decreases_loop
+is-known-requires c κs = (c.loop-i-test.true, c.requires)
 
-add-i : tie.Need-overflow-add-i invariant_loop decreases_loop
-add-i c = omega (arith, c.before.before.before.before.before.requires)
+add-i : tie.Need-overflow_add-i invariant_loop decreases_loop
+add-i c = omega (arith, c.requires)
 
-loop-again : tie.Need-loop-preserved invariant_loop decreases_loop
+loop-again : tie.Need-loop-i-preserved invariant_loop decreases_loop
 loop-again c =
-    let at-loop = c.before.before.before.before in
-    (omega arith, all_next _ _ _ c.before.before.if1.true (sym c.before.is_known.ensures ∙ c.if2.true) ∙ at-loop.loop.invariant.1)
+    (omega arith, all_next _ _ _ c.loop-i-test.true (sym c.is_known.ensures ∙ c.if-is_known.true) ∙ c.loop-i.invariant.1)
 
-returns : tie.Need-returns invariant_loop decreases_loop
+returns : tie.Need-returns-else-is_known invariant_loop decreases_loop
 returns c =
-    all_stop _ _ _ c.before.before.if1.true (sym c.before.is_known.ensures ∙ c.if2.false) ∙ c.before.before.before.before.loop.invariant.1
+    all_stop _ _ _ c.loop-i-test.true (sym c.is_known.ensures ∙ c.if-is_known.false) ∙ c.loop-i.invariant.1
 
-returns-2 : tie.Need-returns-2 invariant_loop decreases_loop
-returns-2 c = all_end _ _ _ c.if1.false ∙ c.before.before.loop.invariant.1
+returns-2 : tie.Need-returns invariant_loop decreases_loop
+returns-2 c = all_end _ _ _ c.loop-i-test.false ∙ c.loop-i.invariant.1
 
 pub all_known_spec : {M : Type 1} → statement M
 all_known_spec =

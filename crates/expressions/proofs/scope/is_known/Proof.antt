@@ -6,7 +6,7 @@ use Rattle.expressions.proofs.scope.is_known.Statement.{statement}
 use Rattle.expressions.proofs.scope.is_known.Tie as tie
 
 returns : tie.Need-returns
-returns c = c.bit.ensures ∙ sym (flag_at _ _ _ c.before.requires.0)
+returns c = c.bit.ensures ∙ sym (flag_at _ _ _ c.requires.0)
 
 pub is_known_spec : {M : Type 1} → statement M
 is_known_spec = tie.close (tie.spec (λ c κs. search rules) returns)

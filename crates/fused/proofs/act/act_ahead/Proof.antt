@@ -11,28 +11,28 @@ use borrow.Author.Rules.{rules}
 use Rattle.fused.proofs.act.act_ahead.Statement.{statement}
 use Rattle.fused.proofs.act.act_ahead.Tie as tie
 
-slice-set-from-v : tie.Need-slice-set-from-v
+slice-set-from-v : tie.Need-bounds-vals-h
 slice-set-from-v c =
-    let a = c.before.before.before.before.before.before.args in
-    let s = subst (λ x. SeenBy a.code.now a.prev.now a.cur.now a.b.at a.b.walk x) c.before.v.given.1 c.before.before.before.pair-ahead.ensures in
-    omega (arith, s.room, c.before.before.before.before.before.before.requires.0.room)
+    let a = c.args in
+    let s = subst (λ x. SeenBy a.code.now a.prev.now a.cur.now a.b.at a.b.walk x) c.in-Value.is c.pair_ahead.ensures in
+    omega (arith, s.room, c.requires.0.room)
 
-mul-k : tie.Need-overflow-mul-k
-mul-k c = record { fits = omega (arith, below_40 _ _ c.before.before.before.before.before.before.before.before.requires.0.small.few_held c.before.before.before.before.before.before.before.before.requires.0.small.sorts_low) }
+mul-k : tie.Need-overflow_mul-k
+mul-k c = record { fits = omega (arith, below_40 _ _ c.requires.0.small.few_held c.requires.0.small.sorts_low) }
 
-add-k-2 : tie.Need-overflow-add-k-2
+add-k-2 : tie.Need-overflow_add-k-2
 add-k-2 c =
-    let a = c.before.before.before.before.before.before.before.before.args in
-    let s = subst (λ x. SeenBy a.code.now a.prev.now a.cur.now a.b.at a.b.walk x) c.before.before.before.v.given.1 c.before.before.before.before.before.pair-ahead.ensures in
-    record { fits = omega (arith, s.made.sort_low, below_40 _ _ c.before.before.before.before.before.before.before.before.requires.0.small.few_held c.before.before.before.before.before.before.before.before.requires.0.small.sorts_low) }
+    let a = c.args in
+    let s = subst (λ x. SeenBy a.code.now a.prev.now a.cur.now a.b.at a.b.walk x) c.in-Value.is c.pair_ahead.ensures in
+    record { fits = omega (arith, s.made.sort_low, below_40 _ _ c.requires.0.small.few_held c.requires.0.small.sorts_low) }
 
-returns-2 : tie.Need-returns-2
+returns-2 : tie.Need-returns
 returns-2 c =
-    let a = c.before.before.before.before.before.before.before.before.args in
-    let v = c.before.before.before.v.given.0.0 in
-    let s = subst (λ x. SeenBy a.code.now a.prev.now a.cur.now a.b.at a.b.walk x) c.before.before.before.v.given.1 c.before.before.before.before.before.pair-ahead.ensures in
+    let a = c.args in
+    let v = c.in-Value.v in
+    let s = subst (λ x. SeenBy a.code.now a.prev.now a.cur.now a.b.at a.b.walk x) c.in-Value.is c.pair_ahead.ensures in
     let fv : SFits w32 v = search rules in
-    rw (to_z-of_z fv) (refl, pair_leaps a.code.now c.before.before.before.before.before.before.before.before.requires.0 c.before.before.before.before.before.before.before.before.requires.1.1 v _ s)
+    rw (to_z-of_z fv) (refl, pair_leaps a.code.now c.requires.0 c.requires.1.1 v _ s)
 
 pub act_ahead_spec : {M : Type 1} → statement M
 act_ahead_spec =

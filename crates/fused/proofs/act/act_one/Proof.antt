@@ -26,94 +26,94 @@ use Rattle.fused.proofs.act.act_one.Tie as tie
 
 -- codes 1 to 3
 unzigzag-requires : tie.Need-unzigzag-requires
-unzigzag-requires c κs = (number_within _ _ _ _ (sym c.before.before.before.before.unsigned-at.ensures ∙ ap unsigned_read c.before.before.n.given.1)).operand
+unzigzag-requires c κs = (number_within _ _ _ _ (sym c.unsigned_at.ensures ∙ ap unsigned_read c.in-Number.is)).operand
 
-returns-7 : tie.Need-returns-7
+returns-7 : tie.Need-returns-in-Number
 unfolding instruction_of has_operand
 returns-7 c =
-    let a = c.before.before.before.before.before.before.before.before.before.before.before.before.args in
-    let num = sym c.before.before.before.before.before.before.before.unsigned-at.ensures ∙ ap unsigned_read c.before.before.before.before.before.n.given.1 in
-    let n = c.before.before.before.before.before.n.given.0.0 in
+    let a = c.args in
+    let num = sym c.unsigned_at.ensures ∙ ap unsigned_read c.in-Number.is in
+    let n = c.in-Number.n in
     let within = number_within _ _ _ _ num in
-    let fv : SFits w32 c.before.before.unzigzag.result = search rules in
-    let p = rw (to_z-of_z fv, c.before.before.unzigzag.ensures) at c.before.put-constant.ensures in
+    let fv : SFits w32 c.unzigzag.result = search rules in
+    let p = rw (to_z-of_z fv, c.unzigzag.ensures) at c.put_constant.ensures in
     p a.low.now a.high.now a.prev.now a.cur.now (record {
       putting = constant (unzigzag n);
-      at_hand = record { ready = c.before.before.before.before.before.before.before.before.before.before.before.before.requires.0; acting = c.before.before.before.before.before.before.before.before.before.before.before.before.requires.1.1; inside = within.inside; fetched = with_operand a.code.now a.b c.before.before.before.before.before.before.before.before.before.before.before.before.requires.1.0 1 c.before.before.before.before.before.before.before.before.match.keys1 refl n c.before.before.before.before.before.n.given.0.1.0 num };
+      at_hand = record { ready = c.requires.0; acting = c.requires.1.1; inside = within.inside; fetched = with_operand a.code.now a.b c.requires.1.0 1 c.in-1.is refl n c.in-Number.next num };
       admitted = constant_is n (known_of a.b.walk) within.operand;
       puts = λ ns k vs e. refl;
     })
 
-returns-8 : tie.Need-returns-8
+returns-8 : tie.Need-returns-else-not-is_known
 unfolding instruction_of has_operand
 returns-8 c =
-    let a = c.before.before.before.before.before.before.before.before.before.before.before.before.before.before.before.before.args in
-    let num = sym c.before.before.before.before.before.before.before.before.before.before.before.unsigned-at2.ensures ∙ ap unsigned_read c.before.before.before.before.before.before.before.before.before.n2.given.1 in
-    let n = c.before.before.before.before.before.before.before.before.before.n2.given.0.0 in
+    let a = c.args in
+    let num = sym c.unsigned_at-in-2.ensures ∙ ap unsigned_read c.in-Number-unsigned_at.is in
+    let n = c.in-Number-unsigned_at.n in
     let w = a.b.walk in
     let fv : SFits w32 (get_or a.cur.now n (pos 0)) = search rules in
-    let p = rw (to_z-of_z fv) at c.before.put.ensures.0 in
-    once_acts a.code.now a.low.now a.high.now a.prev.now a.b a.vals.now a.cur.now _ c.before.put.result (p a.code.now a.low.now a.high.now a.prev.now a.cur.now (record {
+    let p = rw (to_z-of_z fv) at c.put.ensures.0 in
+    once_acts a.code.now a.low.now a.high.now a.prev.now a.b a.vals.now a.cur.now _ c.put.result (p a.code.now a.low.now a.high.now a.prev.now a.cur.now (record {
       putting = current n;
-      at_hand = record { ready = c.before.before.before.before.before.before.before.before.before.before.before.before.before.before.before.before.requires.0; acting = c.before.before.before.before.before.before.before.before.before.before.before.before.before.before.before.before.requires.1.1; inside = (number_within _ _ _ _ num).inside; fetched = with_operand a.code.now a.b c.before.before.before.before.before.before.before.before.before.before.before.before.before.before.before.before.requires.1.0 2 c.before.before.before.before.before.before.before.before.before.before.before.before.match.keys2 refl n c.before.before.before.before.before.before.before.before.before.n2.given.0.1.0 num };
-      admitted = current_pushed w n (sym c.before.before.before.before.before.is_known.ensures ∙ not-false _ c.before.before.before.before.if2.false);
-      puts = λ ns k vs e. current_loaded w n c.before.before.before.before.before.before.if1.false ns a.prev.now a.cur.now k vs e;
+      at_hand = record { ready = c.requires.0; acting = c.requires.1.1; inside = (number_within _ _ _ _ num).inside; fetched = with_operand a.code.now a.b c.requires.1.0 2 c.in-2.is refl n c.in-Number-unsigned_at.next num };
+      admitted = current_pushed w n (sym c.is_known.ensures ∙ not-false _ c.if-not-is_known.false-raw);
+      puts = λ ns k vs e. current_loaded w n c.if-w-n.false ns a.prev.now a.cur.now k vs e;
     }))
 
-returns-9 : tie.Need-returns-9
+returns-9 : tie.Need-returns-else-w-n-2
 unfolding instruction_of has_operand
 returns-9 c =
-    let a = c.before.before.before.before.before.before.before.before.before.before.before.before.before.before.args in
-    let num = sym c.before.before.before.before.before.before.before.before.before.unsigned-at3.ensures ∙ ap unsigned_read c.before.before.before.before.before.before.before.n3.given.1 in
-    let n = c.before.before.before.before.before.before.before.n3.given.0.0 in
+    let a = c.args in
+    let num = sym c.unsigned_at-in-3.ensures ∙ ap unsigned_read c.in-Number-unsigned_at-2.is in
+    let n = c.in-Number-unsigned_at-2.n in
     let w = a.b.walk in
     let fv : SFits w32 (get_or a.prev.now n (pos 0)) = search rules in
-    let p = rw (to_z-of_z fv) at c.before.put2.ensures.0 in
-    once_acts a.code.now a.low.now a.high.now a.prev.now a.b a.vals.now a.cur.now _ c.before.put2.result (p a.code.now a.low.now a.high.now a.prev.now a.cur.now (record {
+    let p = rw (to_z-of_z fv) at c.put-in-3.ensures.0 in
+    once_acts a.code.now a.low.now a.high.now a.prev.now a.b a.vals.now a.cur.now _ c.put-in-3.result (p a.code.now a.low.now a.high.now a.prev.now a.cur.now (record {
       putting = previous n;
-      at_hand = record { ready = c.before.before.before.before.before.before.before.before.before.before.before.before.before.before.requires.0; acting = c.before.before.before.before.before.before.before.before.before.before.before.before.before.before.requires.1.1; inside = (number_within _ _ _ _ num).inside; fetched = with_operand a.code.now a.b c.before.before.before.before.before.before.before.before.before.before.before.before.before.before.requires.1.0 3 c.before.before.before.before.before.before.before.before.before.before.match.keys3 refl n c.before.before.before.before.before.before.before.n3.given.0.1.0 num };
-      admitted = previous_pushed w n c.before.before.before.before.if3.false;
-      puts = λ ns k vs e. previous_loaded w n c.before.before.before.before.if3.false ns a.prev.now a.cur.now k vs e;
+      at_hand = record { ready = c.requires.0; acting = c.requires.1.1; inside = (number_within _ _ _ _ num).inside; fetched = with_operand a.code.now a.b c.requires.1.0 3 c.in-3.is refl n c.in-Number-unsigned_at-2.next num };
+      admitted = previous_pushed w n c.if-w-n-2.false;
+      puts = λ ns k vs e. previous_loaded w n c.if-w-n-2.false ns a.prev.now a.cur.now k vs e;
     }))
 
 -- codes 16 to 18
-returns-10 : tie.Need-returns-10
+returns-10 : tie.Need-returns-in-16
 unfolding instruction_of has_operand
 returns-10 c =
-    let a = c.before.before.before.before.before.before.before.args in
-    once_acts a.code.now a.low.now a.high.now a.prev.now a.b a.vals.now a.cur.now _ c.before.invert.result
-    (c.before.invert.ensures a.code.now a.low.now a.high.now a.prev.now a.cur.now (lone_at_hand c.before.before.before.before.before.before.before.requires.0 c.before.before.before.before.before.before.before.requires.1.1 c.before.before.before.before.before.before.before.requires.1.0 16 c.before.before.before.match.keys4 refl negated refl))
+    let a = c.args in
+    once_acts a.code.now a.low.now a.high.now a.prev.now a.b a.vals.now a.cur.now _ c.invert.result
+    (c.invert.ensures a.code.now a.low.now a.high.now a.prev.now a.cur.now (lone_at_hand c.requires.0 c.requires.1.1 c.requires.1.0 16 c.in-16.is refl negated refl))
 
-returns-11 : tie.Need-returns-11
+returns-11 : tie.Need-returns-in-17
 unfolding instruction_of has_operand truth_of
 returns-11 c =
-    let a = c.before.before.before.before.before.before.before.args in
-    once_acts a.code.now a.low.now a.high.now a.prev.now a.b a.vals.now a.cur.now _ c.before.relate.result
-    (c.before.relate.ensures both (both_is (known_of a.b.walk)) (λ ns s t k vs. refl) a.code.now a.low.now a.high.now a.prev.now a.cur.now (lone_at_hand c.before.before.before.before.before.before.before.requires.0 c.before.before.before.before.before.before.before.requires.1.1 c.before.before.before.before.before.before.before.requires.1.0 17 c.before.before.before.match.keys5 refl both refl))
+    let a = c.args in
+    once_acts a.code.now a.low.now a.high.now a.prev.now a.b a.vals.now a.cur.now _ c.relate.result
+    (c.relate.ensures both (both_is (known_of a.b.walk)) (λ ns s t k vs. refl) a.code.now a.low.now a.high.now a.prev.now a.cur.now (lone_at_hand c.requires.0 c.requires.1.1 c.requires.1.0 17 c.in-17.is refl both refl))
 
-returns-12 : tie.Need-returns-12
+returns-12 : tie.Need-returns-in-18
 unfolding instruction_of has_operand truth_of
 returns-12 c =
-    let a = c.before.before.before.before.before.before.before.args in
-    once_acts a.code.now a.low.now a.high.now a.prev.now a.b a.vals.now a.cur.now _ c.before.relate2.result
-    (c.before.relate2.ensures either (either_is (known_of a.b.walk)) (λ ns s t k vs. refl) a.code.now a.low.now a.high.now a.prev.now a.cur.now (lone_at_hand c.before.before.before.before.before.before.before.requires.0 c.before.before.before.before.before.before.before.requires.1.1 c.before.before.before.before.before.before.before.requires.1.0 18 c.before.before.before.match.keys6 refl either refl))
+    let a = c.args in
+    once_acts a.code.now a.low.now a.high.now a.prev.now a.b a.vals.now a.cur.now _ c.relate-in-18.result
+    (c.relate-in-18.ensures either (either_is (known_of a.b.walk)) (λ ns s t k vs. refl) a.code.now a.low.now a.high.now a.prev.now a.cur.now (lone_at_hand c.requires.0 c.requires.1.1 c.requires.1.0 18 c.in-18.is refl either refl))
 
 -- codes 4 to 8, 10 to 15
-returns-13 : tie.Need-returns-13
+returns-13 : tie.Need-returns-in-4-to-8
 returns-13 c =
-    let a = c.before.before.before.before.before.before.before.before.before.args in
+    let a = c.args in
     let byte = get_or a.code.now a.b.at 0 in
-    let least : 4 ≤ byte = from_four byte c.before.before.before.before.if4.false c.before.before.before.before.before.match.rest.0.0.0.0.0.1 c.before.before.before.before.before.match.rest.0.0.0.0.1 c.before.before.before.before.before.match.rest.0.0.0.1 in
-    once_acts a.code.now a.low.now a.high.now a.prev.now a.b a.vals.now a.cur.now _ c.before.calculate.result
-    (c.before.calculate.ensures a.code.now a.low.now a.high.now a.prev.now a.cur.now (operation_at_hand c.before.before.before.before.before.before.before.before.before.requires.0 c.before.before.before.before.before.before.before.before.before.requires.1.1 c.before.before.before.before.before.before.before.before.before.requires.1.0 byte refl least (omega (arith, c.before.before.before.if5.true))))
+    let least : 4 ≤ byte = from_four byte c.in-4-to-8.if-byte-lt1-own.false c.in-4-to-8.in_default-own.rest.0.0.0.0.0.1 c.in-4-to-8.in_default-own.rest.0.0.0.0.1 c.in-4-to-8.in_default-own.rest.0.0.0.1 in
+    once_acts a.code.now a.low.now a.high.now a.prev.now a.b a.vals.now a.cur.now _ c.calculate.result
+    (c.calculate.ensures a.code.now a.low.now a.high.now a.prev.now a.cur.now (operation_at_hand c.requires.0 c.requires.1.1 c.requires.1.0 byte refl least (omega (arith, c.in-4-to-8.if-byte-lt9-own.true))))
 
-returns-14 : tie.Need-returns-14
+returns-14 : tie.Need-returns-in-10-to-15
 returns-14 c =
-    let a = c.before.before.before.before.before.before.before.before.before.before.before.args in
+    let a = c.args in
     let byte = get_or a.code.now a.b.at 0 in
-    let most : byte ≤ 15 = omega (arith, c.before.before.before.if7.true) in
-    once_acts a.code.now a.low.now a.high.now a.prev.now a.b a.vals.now a.cur.now _ c.before.relate3.result
-    (comparison_acts byte most _ _ _ _ c.before.relate3.result c.before.relate3.ensures a.code.now a.low.now a.high.now a.prev.now a.cur.now (comparison_at_hand c.before.before.before.before.before.before.before.before.before.before.before.requires.0 c.before.before.before.before.before.before.before.before.before.before.before.requires.1.1 c.before.before.before.before.before.before.before.before.before.before.before.requires.1.0 byte refl c.before.before.before.before.if6.false most))
+    let most : byte ≤ 15 = omega (arith, c.in-10-to-15.if-byte-lt16-own.true) in
+    once_acts a.code.now a.low.now a.high.now a.prev.now a.b a.vals.now a.cur.now _ c.relate-in-10-to-15.result
+    (comparison_acts byte most _ _ _ _ c.relate-in-10-to-15.result c.relate-in-10-to-15.ensures a.code.now a.low.now a.high.now a.prev.now a.cur.now (comparison_at_hand c.requires.0 c.requires.1.1 c.requires.1.0 byte refl c.in-10-to-15.if-byte-lt10-own.false most))
 
 pub act_one_spec : {M : Type 1} → statement M
 act_one_spec =

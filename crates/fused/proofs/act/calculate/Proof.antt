@@ -18,20 +18,20 @@ use borrow.Author.Rules.{rules}
 use Rattle.fused.proofs.act.calculate.Statement.{statement}
 use Rattle.fused.proofs.act.calculate.Tie as tie
 
-returns-4 : tie.Need-returns-4
+returns-4 : tie.Need-returns
 returns-4 c code low high prev cur h =
-    let l = c.before.before.before.before.before.before.before.before.before.before.before.before.before.args.vals.now in
-    let b = c.before.before.before.before.before.before.before.before.before.before.before.before.before.args.b in
+    let l = c.args.vals.now in
+    let b = c.args.b in
     let n = b.walk.held in
-    let f = arithmetic (operation_of c.before.before.before.before.before.before.before.before.before.before.before.before.before.args.byte) in
-    let fa : SFits w32 (get_or l (n - 2) (pos 0)) = record { sfits = c.before.before.before.before.before.before.calculated-arg.given } in
-    let fb : SFits w32 (get_or l (n - 1) (pos 0)) = record { sfits = c.before.before.before.before.before.calculated-arg2.given } in
-    let v = c.before.before.v.given.0.0 in
-    let e : f (get_or l (n - 2) (pos 0)) (get_or l (n - 1) (pos 0)) ≡ ok v = rw (to_z-of_z fa, to_z-of_z fb) at (sym c.before.before.before.before.calculated.ensures ∙ ap outcome_of c.before.before.v.given.1) in
+    let f = arithmetic (operation_of c.args.byte) in
+    let fa : SFits w32 (get_or l (n - 2) (pos 0)) = record { sfits = c.calculated-arg-1.given } in
+    let fb : SFits w32 (get_or l (n - 1) (pos 0)) = record { sfits = c.calculated-arg-2-1.given } in
+    let v = c.in-Is.v in
+    let e : f (get_or l (n - 2) (pos 0)) (get_or l (n - 1) (pos 0)) ≡ ok v = rw (to_z-of_z fa, to_z-of_z fb) at (sym c.calculated.ensures ∙ ap outcome_of c.in-Is.is) in
     let fv : SFits w32 v = search rules in
     rw (to_z-of_z fv)
-    (done_acts h c.before.before.before.before.before.before.before.before.before.k.given.0.0 (set l (n - 2) v) c.before.before.before.before.before.before.before.before.before.before.before.join.result c.before.before.before.before.before.before.before.before.before.k.given.1 (c.before.before.before.before.before.before.before.before.before.before.before.join.ensures.0 ∙ sym (operation-is (operation_of c.before.before.before.before.before.before.before.before.before.before.before.before.before.args.byte) (known_of b.walk))) c.before.before.before.before.before.before.before.before.before.before.before.join.ensures.1 (n - 1)
-    (λ ns q. two_put f l n b.picked cur v c.before.before.before.before.before.before.before.if1.false (omega (arith, c.before.before.before.before.before.before.before.before.before.before.before.before.before.requires.0.few_held, c.before.before.before.before.before.before.before.before.before.before.before.before.before.requires.1)) e) c.done.result c.done.ensures)
+    (done_acts h c.in-Kept.k (set l (n - 2) v) c.join.result c.in-Kept.is (c.join.ensures.0 ∙ sym (operation-is (operation_of c.args.byte) (known_of b.walk))) c.join.ensures.1 (n - 1)
+    (λ ns q. two_put f l n b.picked cur v c.if-h-lt2.false (omega (arith, c.requires.0.few_held, c.requires.1)) e) c.done.result c.done.ensures)
 
 pub calculate_spec : {M : Type 1} → statement M
 calculate_spec =

@@ -18,18 +18,18 @@ use borrow.Author.Rules.{rules}
 use Rattle.fused.proofs.act.invert.Statement.{statement}
 use Rattle.fused.proofs.act.invert.Tie as tie
 
-returns-3 : tie.Need-returns-3
+returns-3 : tie.Need-returns
 returns-3 c code low high prev cur h =
-    let l = c.before.before.before.before.before.before.before.before.before.before.args.vals.now in
-    let b = c.before.before.before.before.before.before.before.before.before.before.args.b in
+    let l = c.args.vals.now in
+    let b = c.args.b in
     let n = b.walk.held in
-    let fa : SFits w32 (get_or l (n - 1) (pos 0)) = record { sfits = c.before.before.before.is-yes-arg.given } in
-    let v = c.before.bit-of.result in
-    let x : v ≡ bit (not (yes (get_or l (n - 1) (pos 0)))) = c.before.bit-of.ensures ∙ ap (λ y. bit (not y)) (rw (to_z-of_z fa) at c.before.before.is-yes.ensures) in
+    let fa : SFits w32 (get_or l (n - 1) (pos 0)) = record { sfits = c.is_yes-arg-1.given } in
+    let v = c.bit_of-v.result in
+    let x : v ≡ bit (not (yes (get_or l (n - 1) (pos 0)))) = c.bit_of-v.ensures ∙ ap (λ y. bit (not y)) (rw (to_z-of_z fa) at c.is_yes.ensures) in
     let fv : SFits w32 v = search rules in
     rw (to_z-of_z fv)
-    (done_acts h c.before.before.before.before.before.before.k.given.0.0 (set l (n - 1) v) c.before.before.before.before.before.before.before.before.invert.result c.before.before.before.before.before.before.k.given.1 (c.before.before.before.before.before.before.before.before.invert.ensures.0 ∙ sym (negated_is (known_of b.walk))) c.before.before.before.before.before.before.before.before.invert.ensures.1 n
-    (λ ns q. one_put (λ y. ok (bit (not (yes y)))) l n b.picked cur c.before.before.before.before.if1.false v (omega (arith, c.before.before.before.before.before.before.before.before.before.before.requires.0.few_held, c.before.before.before.before.before.before.before.before.before.before.requires.1)) (ap ok (sym x))) c.done.result c.done.ensures)
+    (done_acts h c.in-Kept.k (set l (n - 1) v) c.invert.result c.in-Kept.is (c.invert.ensures.0 ∙ sym (negated_is (known_of b.walk))) c.invert.ensures.1 n
+    (λ ns q. one_put (λ y. ok (bit (not (yes y)))) l n b.picked cur c.if-h-eq0.false v (omega (arith, c.requires.0.few_held, c.requires.1)) (ap ok (sym x))) c.done.result c.done.ensures)
 
 pub invert_spec : {M : Type 1} → statement M
 invert_spec =

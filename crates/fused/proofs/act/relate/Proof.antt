@@ -17,19 +17,19 @@ use borrow.Author.Rules.{rules}
 use Rattle.fused.proofs.act.relate.Statement.{statement}
 use Rattle.fused.proofs.act.relate.Tie as tie
 
-returns-3 : tie.Need-returns-3
+returns-3 : tie.Need-returns
 returns-3 c i e does code low high prev cur h =
-    let l = c.before.before.before.before.before.before.before.before.before.before.before.args.vals.now in
-    let b = c.before.before.before.before.before.before.before.before.before.before.before.args.b in
+    let l = c.args.vals.now in
+    let b = c.args.b in
     let n = b.walk.held in
-    let fa : SFits w32 (get_or l (n - 2) (pos 0)) = record { sfits = c.before.before.before.before.truth-arg.given } in
-    let fb : SFits w32 (get_or l (n - 1) (pos 0)) = record { sfits = c.before.before.before.truth-arg2.given } in
-    let v = c.before.bit-of.result in
-    let x : v ≡ bit (truth_of c.before.before.before.before.before.before.before.before.before.before.before.args.byte (get_or l (n - 2) (pos 0)) (get_or l (n - 1) (pos 0))) = c.before.bit-of.ensures ∙ ap bit (rw (to_z-of_z fa, to_z-of_z fb) at c.before.before.truth.ensures) in
+    let fa : SFits w32 (get_or l (n - 2) (pos 0)) = record { sfits = c.truth-arg-1.given } in
+    let fb : SFits w32 (get_or l (n - 1) (pos 0)) = record { sfits = c.truth-arg-2-1.given } in
+    let v = c.bit_of-v.result in
+    let x : v ≡ bit (truth_of c.args.byte (get_or l (n - 2) (pos 0)) (get_or l (n - 1) (pos 0))) = c.bit_of-v.ensures ∙ ap bit (rw (to_z-of_z fa, to_z-of_z fb) at c.truth.ensures) in
     let fv : SFits w32 v = search rules in
     rw (to_z-of_z fv)
-    (done_acts h c.before.before.before.before.before.before.before.k.given.0.0 (set l (n - 2) v) c.before.before.before.before.before.before.before.before.before.test.result c.before.before.before.before.before.before.before.k.given.1 (c.before.before.before.before.before.before.before.before.before.test.ensures.0 ∙ sym e) c.before.before.before.before.before.before.before.before.before.test.ensures.1 (n - 1)
-    (λ ns q. two_put (λ y z. ok (bit (truth_of c.before.before.before.before.before.before.before.before.before.before.before.args.byte y z))) l n b.picked cur v c.before.before.before.before.before.if1.false (omega (arith, c.before.before.before.before.before.before.before.before.before.before.before.requires.0.few_held, c.before.before.before.before.before.before.before.before.before.before.before.requires.2)) (ap ok (sym x)) ∙ sym (does ns prev cur b.picked (held_of l n)))
+    (done_acts h c.in-Kept.k (set l (n - 2) v) c.test.result c.in-Kept.is (c.test.ensures.0 ∙ sym e) c.test.ensures.1 (n - 1)
+    (λ ns q. two_put (λ y z. ok (bit (truth_of c.args.byte y z))) l n b.picked cur v c.if-h-lt2.false (omega (arith, c.requires.0.few_held, c.requires.2)) (ap ok (sym x)) ∙ sym (does ns prev cur b.picked (held_of l n)))
     c.done.result c.done.ensures)
 
 pub relate_spec : {M : Type 1} → statement M

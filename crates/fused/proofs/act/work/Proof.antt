@@ -7,16 +7,16 @@ use borrow.Author.Rules.{rules}
 use Rattle.fused.proofs.act.work.Statement.{statement}
 use Rattle.fused.proofs.act.work.Tie as tie
 
-returns : tie.Need-returns
+returns : tie.Need-returns-in-4-to-8
 returns c low high prev cur r go =
-    let code = c.before.before.before.before.before.before.before.args.code.now in
-    c.before.calculate.ensures code low high prev cur (operation_at_hand r go c.before.before.before.before.before.before.before.requires.1 (get_or code c.before.before.before.before.before.before.before.args.b.at 0) refl c.before.before.before.before.if1.false (omega (arith, c.before.before.before.if2.true)))
+    let code = c.args.code.now in
+    c.calculate.ensures code low high prev cur (operation_at_hand r go c.requires.1 (get_or code c.args.b.at 0) refl c.in-4-to-8.if-byte-lt4-own.false (omega (arith, c.in-4-to-8.if-byte-lt9-own.true)))
 
-returns-2 : tie.Need-returns-2
+returns-2 : tie.Need-returns-in-10-to-15
 returns-2 c low high prev cur r go =
-    let code = c.before.before.before.before.before.before.before.before.before.args.code.now in
-    let byte = get_or code c.before.before.before.before.before.before.before.before.before.args.b.at 0 in
-    comparison_acts byte (omega (arith, c.before.before.before.if4.true)) _ _ _ _ c.before.relate.result c.before.relate.ensures code low high prev cur (comparison_at_hand r go c.before.before.before.before.before.before.before.before.before.requires.1 byte refl c.before.before.before.before.if3.false (omega (arith, c.before.before.before.if4.true)))
+    let code = c.args.code.now in
+    let byte = get_or code c.args.b.at 0 in
+    comparison_acts byte (omega (arith, c.in-10-to-15.if-byte-lt16-own.true)) _ _ _ _ c.relate.result c.relate.ensures code low high prev cur (comparison_at_hand r go c.requires.1 byte refl c.in-10-to-15.if-byte-lt10-own.false (omega (arith, c.in-10-to-15.if-byte-lt16-own.true)))
 
 pub work_spec : {M : Type 1} → statement M
 work_spec =

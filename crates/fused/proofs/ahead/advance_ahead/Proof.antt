@@ -10,16 +10,16 @@ use Rattle.fused.proofs.ahead.advance_ahead.Statement.{statement}
 use Rattle.fused.proofs.ahead.advance_ahead.Tie as tie
 
 shut-requires : tie.Need-shut-requires
-shut-requires c κs = omega (arith, c.before.before.before.before.requires.1.0, c.before.before.before.before.well_formed.0)
+shut-requires c κs = omega (arith, c.requires.1.0, c.well_formed.0)
 
-returns : tie.Need-returns
+returns : tie.Need-returns-then-shuts
 returns c =
-    let a = c.before.before.before.before.before.args in
+    let a = c.args in
     subst (λ (p : Progress). Goes a.code.now a.low.now a.high.now a.prev.now 1 a.b a.vals.now a.cur.now p a.vals.now a.cur.now) (sym c.shut.ensures)
-    (shut_goes c.before.before.before.before.before.requires.0 c.before.before.before.before.before.requires.1.1 c.before.before.before.before.before.requires.1.0 (c.before.before.shuts.ensures c.before.if1.true))
+    (shut_goes c.requires.0 c.requires.1.1 c.requires.1.0 (c.shuts.ensures c.if-shuts.true))
 
-returns-2 : tie.Need-returns-2
-returns-2 c = leaps_alone _ _ _ _ _ _ _ _ _ c.before.before.before.advance-one.result c.single.result c.single.ensures c.before.before.before.advance-one.ensures
+returns-2 : tie.Need-returns
+returns-2 c = leaps_alone _ _ _ _ _ _ _ _ _ c.advance_one.result c.single.result c.single.ensures c.advance_one.ensures
 
 pub advance_ahead_spec : {M : Type 1} → statement M
 advance_ahead_spec =

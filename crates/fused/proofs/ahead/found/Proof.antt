@@ -15,24 +15,24 @@ use Rattle.fused.proofs.ahead.found.Statement.{statement}
 use Rattle.fused.proofs.ahead.found.Tie as tie
 
 -- codes 4 to 8
-returns-3 : tie.Need-returns-3
+returns-3 : tie.Need-returns-in-Is
 returns-3 c =
-    let a = c.before.before.before.before.before.before.args in
-    let fa : SFits w32 a.a = c.before.before.before.before.before.before.ranges.a in
-    let fc : SFits w32 a.c = c.before.before.before.before.before.before.ranges.c in
-    let e : arithmetic (operation_of a.op) a.a a.c ≡ ok c.before.v.given.0.0 = rw (to_z-of_z fa, to_z-of_z fc) at (sym c.before.before.before.calculated.ensures ∙ ap outcome_of c.before.v.given.1) in
-    let fv : SFits w32 c.before.v.given.0.0 = search rules in
-    rw (to_z-of_z fv) (operation_made a.w a.op a.a a.c c.before.v.given.0.0 (omega (arith, c.before.before.before.before.before.if1.false)) (omega (arith, c.before.before.before.before.if2.true)) e)
+    let a = c.args in
+    let fa : SFits w32 a.a = c.ranges.a in
+    let fc : SFits w32 a.c = c.ranges.c in
+    let e : arithmetic (operation_of a.op) a.a a.c ≡ ok c.in-Is.v = rw (to_z-of_z fa, to_z-of_z fc) at (sym c.calculated.ensures ∙ ap outcome_of c.in-Is.is) in
+    let fv : SFits w32 c.in-Is.v = search rules in
+    rw (to_z-of_z fv) (operation_made a.w a.op a.a a.c c.in-Is.v (omega (arith, c.in-4-to-8.if-op-lt4-own.false)) (omega (arith, c.in-4-to-8.if-op-lt9-own.true)) e)
 
 -- codes 10 to 15
-returns-4 : tie.Need-returns-4
+returns-4 : tie.Need-returns-else-w-ne0
 returns-4 c =
-    let a = c.before.before.before.before.before.before.before.before.args in
-    let fa : SFits w32 a.a = c.before.before.before.before.before.before.before.before.ranges.a in
-    let fc : SFits w32 a.c = c.before.before.before.before.before.before.before.before.ranges.c in
-    let e : c.before.truth.result ≡ truth_of a.op a.a a.c = rw (to_z-of_z fa, to_z-of_z fc) at c.before.truth.ensures in
-    let fv : SFits w32 c.bit-of.result = search rules in
-    rw (to_z-of_z fv) (comparison_made a.w a.op a.a a.c c.bit-of.result (omega (arith, c.before.before.before.before.before.if3.false)) (omega (arith, c.before.before.before.before.if4.true)) c.before.before.if5.false (c.bit-of.ensures ∙ ap bit e))
+    let a = c.args in
+    let fa : SFits w32 a.a = c.ranges.a in
+    let fc : SFits w32 a.c = c.ranges.c in
+    let e : c.truth.result ≡ truth_of a.op a.a a.c = rw (to_z-of_z fa, to_z-of_z fc) at c.truth.ensures in
+    let fv : SFits w32 c.bit_of.result = search rules in
+    rw (to_z-of_z fv) (comparison_made a.w a.op a.a a.c c.bit_of.result (omega (arith, c.in-10-to-15.if-op-lt10-own.false)) (omega (arith, c.in-10-to-15.if-op-lt16-own.true)) c.if-w-ne0.false (c.bit_of.ensures ∙ ap bit e))
 
 pub found_spec : {M : Type 1} → statement M
 found_spec =

@@ -19,42 +19,42 @@ use Rattle.fused.proofs.Leaping.{previous_sees, current_sees}
 use Rattle.fused.proofs.ahead.pair_ahead.Statement.{statement}
 use Rattle.fused.proofs.ahead.pair_ahead.Tie as tie
 
-shared-slice-copy-out-found : tie.Need-shared-slice-copy-out-found
-shared-slice-copy-out-found c = lt_of_lt_of_le c.before.before.before.before.before.before.if7.false c.before.before.before.before.before.before.before.before.before.before.before.before.before.before.before.before.before.before.before.before.requires.2
+shared-slice-copy-out-found : tie.Need-bounds-prev-i
+shared-slice-copy-out-found c = lt_of_lt_of_le c.if-w-id.false c.requires.2
 
-returns-10 : tie.Need-returns-10
+returns-10 : tie.Need-returns-then-byte-eq3
 returns-10 c =
-    let a = c.before.before.before.before.before.before.before.before.before.before.before.before.before.before.before.before.before.before.before.before.before.before.before.args in
+    let a = c.args in
     let code = a.code.now in
-    let i = c.before.before.before.before.before.before.before.before.before.before.before.wide.ensures in
-    let n = c.before.before.before.before.before.before.before.wide2.ensures in
-    let fx : SFits w32 (get_or a.prev.now c.before.before.before.before.before.before.before.before.before.before.before.wide.result (pos 0)) = search rules in
-    let fy : SFits w32 c.before.unzigzag.result = search rules in
+    let i = c.wide-id.ensures in
+    let n = c.wide-n.ensures in
+    let fx : SFits w32 (get_or a.prev.now c.wide-id.result (pos 0)) = search rules in
+    let fy : SFits w32 c.unzigzag.result = search rules in
     let f : FoundBy a.w (get_or code (a.at + 4) 0) (value_at a.prev.now (get_or code (a.at + 1) 0)) (unzigzag (get_or code (a.at + 3) 0)) c.found.result =
-    rw (to_z-of_z fx, to_z-of_z fy, c.before.unzigzag.ensures, i, n) at c.found.ensures in
-    previous_sees code a.prev.now a.cur.now a.at a.w c.before.before.before.before.before.before.before.before.before.before.before.before.before.before.before.before.before.before.before.before.before.before.before.requires.0 c.before.before.before.before.before.before.before.before.before.before.before.before.before.before.before.before.before.before.if3.false c.before.before.before.before.before.before.before.before.before.before.before.before.before.before.before.before.if4.false
-    (omega (arith, c.before.before.before.before.before.before.before.before.before.if7.false, i)) (omega (arith, c.before.before.before.before.before.before.if8.false, n)) (omega (arith, c.before.before.before.before.if9.false)) c.before.before.before.if10.true c.found.result f
+    rw (to_z-of_z fx, to_z-of_z fy, c.unzigzag.ensures, i, n) at c.found.ensures in
+    previous_sees code a.prev.now a.cur.now a.at a.w c.requires.0 c.if-code-at.false c.if-code-at-ne1.false
+    (omega (arith, c.if-w-id.false, i)) (omega (arith, c.if-n-gt127.false, n)) (omega (arith, c.if-w.false)) c.if-byte-eq3.true c.found.result f
 
-is-known-requires : tie.Need-is-known-requires
-is-known-requires c κs = c.before.before.before.before.before.before.before.before.before.before.before.before.before.before.before.before.before.before.before.before.requires.0
+is-known-requires : tie.Need-is_known-requires
+is-known-requires c κs = c.requires.0
 
-shared-slice-copy-out-found-2 : tie.Need-shared-slice-copy-out-found-2
-shared-slice-copy-out-found-2 c = lt_of_lt_of_le c.before.before.before.before.before.before.before.before.if7.false c.before.before.before.before.before.before.before.before.before.before.before.before.before.before.before.before.before.before.before.before.before.before.requires.3
+shared-slice-copy-out-found-2 : tie.Need-bounds-cur-i
+shared-slice-copy-out-found-2 c = lt_of_lt_of_le c.if-w-id.false c.requires.3
 
-returns-12 : tie.Need-returns-12
+returns-12 : tie.Need-returns
 returns-12 c =
-    let a = c.before.before.before.before.before.before.before.before.before.before.before.before.before.before.before.before.before.before.before.before.before.before.before.before.before.args in
+    let a = c.args in
     let code = a.code.now in
-    let i = c.before.before.before.before.before.before.before.before.before.before.before.before.before.wide.ensures in
-    let n = c.before.before.before.before.before.before.before.before.before.wide2.ensures in
-    let fx : SFits w32 (get_or a.cur.now c.before.before.before.before.before.before.before.before.before.before.before.before.before.wide.result (pos 0)) = search rules in
-    let fy : SFits w32 c.before.unzigzag2.result = search rules in
-    let f : FoundBy a.w (get_or code (a.at + 4) 0) (value_at a.cur.now (get_or code (a.at + 1) 0)) (unzigzag (get_or code (a.at + 3) 0)) c.found2.result =
-    rw (to_z-of_z fx, to_z-of_z fy, c.before.unzigzag2.ensures, i, n) at c.found2.ensures in
-    let is : get_or code a.at 0 ≡ 2 = omega (arith, c.before.before.before.before.before.before.before.before.before.before.before.before.before.before.before.before.before.before.before.before.before.before.if1.false, c.before.before.before.before.before.before.before.before.before.before.before.before.before.before.before.before.before.before.before.before.before.if2.false, c.before.before.before.before.before.if10.false) in
-    let known : get_or (flags_of a.w.names a.w.known) (get_or code (a.at + 1) 0) false ≡ true = rw i at (sym c.before.before.before.before.is_known.ensures ∙ not-false _ c.before.before.before.if11.false) in
-    current_sees code a.prev.now a.cur.now a.at a.w c.before.before.before.before.before.before.before.before.before.before.before.before.before.before.before.before.before.before.before.before.before.before.before.before.before.requires.0 c.before.before.before.before.before.before.before.before.before.before.before.before.before.before.before.before.before.before.before.before.if3.false c.before.before.before.before.before.before.before.before.before.before.before.before.before.before.before.before.before.before.if4.false
-    (omega (arith, c.before.before.before.before.before.before.before.before.before.before.before.if7.false, i)) (omega (arith, c.before.before.before.before.before.before.before.before.if8.false, n)) (omega (arith, c.before.before.before.before.before.before.if9.false)) is known c.found2.result f
+    let i = c.wide-id.ensures in
+    let n = c.wide-n.ensures in
+    let fx : SFits w32 (get_or a.cur.now c.wide-id.result (pos 0)) = search rules in
+    let fy : SFits w32 c.unzigzag-2.result = search rules in
+    let f : FoundBy a.w (get_or code (a.at + 4) 0) (value_at a.cur.now (get_or code (a.at + 1) 0)) (unzigzag (get_or code (a.at + 3) 0)) c.found-2.result =
+    rw (to_z-of_z fx, to_z-of_z fy, c.unzigzag-2.ensures, i, n) at c.found-2.ensures in
+    let is : get_or code a.at 0 ≡ 2 = omega (arith, c.if-byte-lt2.false, c.if-byte-gt3.false, c.if-byte-eq3.false) in
+    let known : get_or (flags_of a.w.names a.w.known) (get_or code (a.at + 1) 0) false ≡ true = rw i at (sym c.is_known.ensures ∙ not-false _ c.if-not-is_known.false-raw) in
+    current_sees code a.prev.now a.cur.now a.at a.w c.requires.0 c.if-code-at.false c.if-code-at-ne1.false
+    (omega (arith, c.if-w-id.false, i)) (omega (arith, c.if-n-gt127.false, n)) (omega (arith, c.if-w.false)) is known c.found-2.result f
 
 pub pair_ahead_spec : {M : Type 1} → statement M
 pair_ahead_spec =

@@ -17,31 +17,31 @@ use Rattle.fused.proofs.ahead.settle_ahead.Statement.{statement}
 use Rattle.fused.proofs.ahead.settle_ahead.Tie as tie
 
 settle-requires : tie.Need-settle-requires
-settle-requires c κs = (c.before.before.before.before.before.before.before.before.before.requires.0, (number_within _ _ _ _ (sym c.before.before.before.unsigned-at.ensures ∙ ap unsigned_read c.before.n.given.1)).operand)
+settle-requires c κs = (c.requires.0, (number_within _ _ _ _ (sym c.unsigned_at.ensures ∙ ap unsigned_read c.in-Number.is)).operand)
 
-shared-slice-copy-out-cur : tie.Need-shared-slice-copy-out-cur
-shared-slice-copy-out-cur c = omega (arith, c.before.before.if3.false, c.before.before.before.before.before.before.before.before.before.before.before.before.before.before.before.before.before.requires.1)
+shared-slice-copy-out-cur : tie.Need-bounds-prev-i
+shared-slice-copy-out-cur c = omega (arith, c.if-w-n.false, c.requires.1)
 
-slice-set-from-cur : tie.Need-slice-set-from-cur
-slice-set-from-cur c = omega (arith, c.before.before.before.if3.false, c.before.before.before.before.before.before.before.before.before.before.before.before.before.before.before.before.before.before.requires.1, c.before.before.before.before.before.before.before.before.before.before.before.before.before.before.before.before.before.before.requires.2)
+slice-set-from-cur : tie.Need-bounds-cur-i
+slice-set-from-cur c = omega (arith, c.if-w-n.false, c.requires.1, c.requires.2)
 
 -- nothing was picked
-returns-6 : tie.Need-returns-6
+returns-6 : tie.Need-returns-then-not-b
 returns-6 c =
-    let a = c.before.before.before.before.before.before.before.before.before.before.before.before.before.before.before.before.before.before.args in
-    let num = sym c.before.before.before.before.before.before.before.before.before.before.before.before.unsigned-at.ensures ∙ ap unsigned_read c.before.before.before.before.before.before.before.before.before.before.n.given.1 in
-    let low : c.before.before.before.before.before.before.before.before.before.before.n.given.0.0 < length a.prev.now = omega (arith, c.before.before.before.if3.false, c.before.before.before.before.before.before.before.before.before.before.before.before.before.before.before.before.before.before.requires.1) in
-    let f : SFits w32 (at a.prev.now c.before.before.before.before.before.before.before.before.before.before.n.given.0.0) = record { sfits = c.cur.given } in
-    settles a.code.now a.prev.now a.b a.cur.now (omega (arith, c.before.before.before.before.before.before.before.before.before.before.before.before.before.before.before.if1.false)) c.before.before.before.before.before.before.before.before.before.before.before.before.before.if2.false _ _ num _ c.before.before.before.before.before.before.before.before.settle.result c.before.before.before.before.before.before.k.given.1 c.before.before.before.before.before.before.before.before.settle.ensures.0 c.before.before.before.before.before.before.before.before.settle.ensures.1 _
-    (λ ns vals e. rw (to_z-of_z f) (settle_kept ns a.prev.now vals a.b.walk.held c.before.before.before.before.before.before.before.before.before.before.n.given.0.0 a.cur.now e a.b.picked low (not-true _ c.before.if4.true)))
+    let a = c.args in
+    let num = sym c.unsigned_at.ensures ∙ ap unsigned_read c.in-Number.is in
+    let low : c.in-Number.n < length a.prev.now = omega (arith, c.if-w-n.false, c.requires.1) in
+    let f : SFits w32 (at a.prev.now c.in-Number.n) = record { sfits = c.cur-1.given } in
+    settles a.code.now a.prev.now a.b a.cur.now (omega (arith, c.if-code-at.false)) c.if-code-at-ne22.false _ _ num _ c.settle.result c.in-Kept.is c.settle.ensures.0 c.settle.ensures.1 _
+    (λ ns vals e. rw (to_z-of_z f) (settle_kept ns a.prev.now vals a.b.walk.held c.in-Number.n a.cur.now e a.b.picked low (not-true _ c.if-not-b.true)))
 
-returns-7 : tie.Need-returns-7
+returns-7 : tie.Need-returns-else-not-b
 returns-7 c =
-    let a = c.before.before.before.before.before.before.before.before.before.before.before.before.before.before.before.before.before.args in
-    let num = sym c.before.before.before.before.before.before.before.before.before.before.before.unsigned-at.ensures ∙ ap unsigned_read c.before.before.before.before.before.before.before.before.before.n.given.1 in
-    let low : c.before.before.before.before.before.before.before.before.before.n.given.0.0 < length a.prev.now = omega (arith, c.before.before.if3.false, c.before.before.before.before.before.before.before.before.before.before.before.before.before.before.before.before.before.requires.1) in
-    settles a.code.now a.prev.now a.b a.cur.now (omega (arith, c.before.before.before.before.before.before.before.before.before.before.before.before.before.before.if1.false)) c.before.before.before.before.before.before.before.before.before.before.before.before.if2.false _ _ num _ c.before.before.before.before.before.before.before.settle.result c.before.before.before.before.before.k.given.1 c.before.before.before.before.before.before.before.settle.ensures.0 c.before.before.before.before.before.before.before.settle.ensures.1 _
-    (λ ns vals e. settle_picked ns a.prev.now vals a.b.walk.held c.before.before.before.before.before.before.before.before.before.n.given.0.0 a.cur.now e a.b.picked low (not-false _ c.if4.false))
+    let a = c.args in
+    let num = sym c.unsigned_at.ensures ∙ ap unsigned_read c.in-Number.is in
+    let low : c.in-Number.n < length a.prev.now = omega (arith, c.if-w-n.false, c.requires.1) in
+    settles a.code.now a.prev.now a.b a.cur.now (omega (arith, c.if-code-at.false)) c.if-code-at-ne22.false _ _ num _ c.settle.result c.in-Kept.is c.settle.ensures.0 c.settle.ensures.1 _
+    (λ ns vals e. settle_picked ns a.prev.now vals a.b.walk.held c.in-Number.n a.cur.now e a.b.picked low (not-false _ c.if-not-b.false))
 
 pub settle_ahead_spec : {M : Type 1} → statement M
 settle_ahead_spec =

@@ -5,11 +5,11 @@ use Rattle.fused.specs.Inner.Leaps.{leap_of}
 use Rattle.fused.proofs.ahead.single.Statement.{statement}
 use Rattle.fused.proofs.ahead.single.Tie as tie
 
-returns : tie.Need-returns
-returns c = ap leap_of (sym c.before.m.given.1)
+returns : tie.Need-returns-in-On
+returns c = ap leap_of (sym c.in-On.is)
 
-returns-2 : tie.Need-returns-2
-returns-2 c = ap leap_of (sym c.before.m2.given.1)
+returns-2 : tie.Need-returns-in-Refused
+returns-2 c = ap leap_of (sym c.in-Refused.is)
 
 pub single_spec : {M : Type 1} → statement M
 single_spec = tie.close (tie.spec (λ c. search rules) (λ c. search rules) (λ c. search rules) returns returns-2 (λ c. search rules))

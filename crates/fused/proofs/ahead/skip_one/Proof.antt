@@ -7,20 +7,20 @@ use Rattle.fused.proofs.Skipping.{operation_skips, constant_skips, previous_skip
 use Rattle.fused.proofs.ahead.skip_one.Statement.{statement}
 use Rattle.fused.proofs.ahead.skip_one.Tie as tie
 
-returns-3 : tie.Need-returns-3
-returns-3 c = operation_skips c.before.before.before.before.before.args.w c.before.before.before.before.before.requires.2 c.before.before.before.before.before.args.code.now c.before.before.before.before.before.args.held c.before.before.before.before.before.args.at c.before.before.before.before.before.requires.1 c.before.before.before.before.before.requires.3 (omega (arith, c.before.if2.true)) (omega (arith, c.before.before.if1.false)) (omega (arith, c.if3.false))
+returns-3 : tie.Need-returns-then-byte-gt3
+returns-3 c = operation_skips c.args.w c.requires.2 c.args.code.now c.args.held c.args.at c.requires.1 c.requires.3 (omega (arith, c.if-byte-gt3.true)) (omega (arith, c.if-byte-gt8.false)) (omega (arith, c.if-held-lt2.false))
 
-returns-6 : tie.Need-returns-6
+returns-6 : tie.Need-returns-then-byte-eq1
 returns-6 c =
-    constant_skips c.before.before.before.before.before.before.before.before.before.before.args.w c.before.before.before.before.before.before.before.before.before.before.requires.2 c.before.before.before.before.before.before.before.before.before.before.args.code.now c.before.before.before.before.before.before.before.before.before.before.args.held c.before.before.before.before.before.before.before.before.before.before.args.at c.before.before.before.before.before.before.before.before.before.before.requires.1 c.before.before.before.before.before.before.before.before.before.before.requires.3 c.before.before.n.given.0.0 c.before.before.n.given.0.1.0 (sym c.before.before.before.before.unsigned-at.ensures ∙ ap unsigned_read c.before.before.n.given.1) (omega (arith, c.before.before.before.before.before.if4.false)) c.if5.true
+    constant_skips c.args.w c.requires.2 c.args.code.now c.args.held c.args.at c.requires.1 c.requires.3 c.in-Number.n c.in-Number.next (sym c.unsigned_at.ensures ∙ ap unsigned_read c.in-Number.is) (omega (arith, c.if-held.false)) c.if-byte-eq1.true
 
-returns-8 : tie.Need-returns-8
+returns-8 : tie.Need-returns-then-byte-eq3
 returns-8 c =
-    previous_skips c.before.before.before.before.before.before.before.before.before.before.before.before.before.args.w c.before.before.before.before.before.before.before.before.before.before.before.before.before.requires.2 c.before.before.before.before.before.before.before.before.before.before.before.before.before.args.code.now c.before.before.before.before.before.before.before.before.before.before.before.before.before.args.held c.before.before.before.before.before.before.before.before.before.before.before.before.before.args.at c.before.before.before.before.before.before.before.before.before.before.before.before.before.requires.1 c.before.before.before.before.before.before.before.before.before.before.before.before.before.requires.3 c.before.before.before.before.before.n.given.0.0 c.before.before.before.before.before.n.given.0.1.0 (sym c.before.before.before.before.before.before.before.unsigned-at.ensures ∙ ap unsigned_read c.before.before.before.before.before.n.given.1) (omega (arith, c.before.before.before.before.before.before.before.before.if4.false)) c.before.before.if6.true (omega (arith, c.if7.false))
+    previous_skips c.args.w c.requires.2 c.args.code.now c.args.held c.args.at c.requires.1 c.requires.3 c.in-Number.n c.in-Number.next (sym c.unsigned_at.ensures ∙ ap unsigned_read c.in-Number.is) (omega (arith, c.if-held.false)) c.if-byte-eq3.true (omega (arith, c.if-w-n.false))
 
-returns-10 : tie.Need-returns-10
+returns-10 : tie.Need-returns-then-is_known
 returns-10 c =
-    current_skips c.before.before.before.before.before.before.before.before.before.before.before.before.before.before.args.w c.before.before.before.before.before.before.before.before.before.before.before.before.before.before.requires.2 c.before.before.before.before.before.before.before.before.before.before.before.before.before.before.args.code.now c.before.before.before.before.before.before.before.before.before.before.before.before.before.before.args.held c.before.before.before.before.before.before.before.before.before.before.before.before.before.before.args.at c.before.before.before.before.before.before.before.before.before.before.before.before.before.before.requires.1 c.before.before.before.before.before.before.before.before.before.before.before.before.before.before.requires.3 c.before.before.before.before.before.before.n.given.0.0 c.before.before.before.before.before.before.n.given.0.1.0 (sym c.before.before.before.before.before.before.before.before.unsigned-at.ensures ∙ ap unsigned_read c.before.before.before.before.before.before.n.given.1) (omega (arith, c.before.before.before.before.before.before.before.before.before.if4.false)) (omega (arith, c.before.before.before.before.before.before.before.before.before.before.if2.false, c.before.before.if8.false, c.before.before.before.before.if5.false, c.before.before.before.if6.false)) (sym c.before.is_known.ensures ∙ c.if9.true)
+    current_skips c.args.w c.requires.2 c.args.code.now c.args.held c.args.at c.requires.1 c.requires.3 c.in-Number.n c.in-Number.next (sym c.unsigned_at.ensures ∙ ap unsigned_read c.in-Number.is) (omega (arith, c.if-held.false)) (omega (arith, c.if-byte-gt3.false, c.if-byte-eq0.false, c.if-byte-eq1.false, c.if-byte-eq3.false)) (sym c.is_known.ensures ∙ c.if-is_known.true)
 
 pub skip_one_spec : {M : Type 1} → statement M
 skip_one_spec =

@@ -32,47 +32,47 @@ operand_below t = and 5 operand-kinds.ps (falls 5 operand-kinds.ps ◌<◌ μ_op
 abbrev claims : ℕ → operand-lts.Claims
 claims t = (leaf-reads.Asked, leaf-reads.Learnt, opens-before-reads.Asked, opens-before-reads.Learnt, byte-before-reads.Asked, byte-before-reads.Learnt, operand_below t, operand.Post, is-prefix-reads.Asked, is-prefix-reads.Learnt, prefix-before-reads.Asked, prefix-before-reads.Learnt, sign-before-reads.Asked, sign-before-reads.Learnt)
 
-abbrev invariant_loop : operand-lts.invariant_loop
+abbrev invariant_loop : operand-lts.invariant-loop-a
 invariant_loop text starts ends count code at out₀ to a₀ place₀ pending₀ out a place pending = (at ≤ a) × (a ≤ length code) × (pending ≤ a) × (length out ≡ length out₀) × Spine (table_names text starts ends count) code at a out₀ out to place pending
 
-abbrev decreases_loop : operand-lts.decreases_loop
+abbrev decreases_loop : operand-lts.decreases-loop-a
 decreases_loop text starts ends count code at out₀ to a₀ place₀ pending₀ out a place pending = length code - a
 
-loop-holds : (t : ℕ) → operand-lts.Need-loop-init (claims t) (operand_at t) operand.Post invariant_loop decreases_loop
-loop-holds t c = (omega arith, c.before.before.before.before.before.requires.1.1, omega arith, refl, spine_starts _ _ _ _ _)
+loop-holds : (t : ℕ) → operand-lts.Need-loop-a-init (claims t) (operand_at t) operand.Post invariant_loop decreases_loop
+loop-holds t c = (omega arith, c.requires.1.1, omega arith, refl, spine_starts _ _ _ _ _)
 
-same_length : (t : ℕ) → operand-lts.Need-same-length (claims t) (operand_at t) operand.Post invariant_loop decreases_loop
-same_length t c = c.before.loop.invariant.3
+same_length : (t : ℕ) → operand-lts.Need-shape_of-out-then-code-a (claims t) (operand_at t) operand.Post invariant_loop decreases_loop
+same_length t c = c.loop-a.invariant.3
 
-returns : (t : ℕ) → operand-lts.Need-returns (claims t) (operand_at t) operand.Post invariant_loop decreases_loop
-returns t c = let i = c.before.loop.invariant in ((i.0, i.1), spine_short _ _ _ _ _ _ _ _ _ c.if1.true i.3 i.4)
+returns : (t : ℕ) → operand-lts.Need-returns-then-code-a (claims t) (operand_at t) operand.Post invariant_loop decreases_loop
+returns t c = let i = c.loop-a.invariant in ((i.0, i.1), spine_short _ _ _ _ _ _ _ _ _ c.if-code-a.true i.3 i.4)
 
-leaf-requires : (t : ℕ) → operand-lts.Need-leaf-requires (claims t) (operand_at t) operand.Post invariant_loop decreases_loop
-leaf-requires t c κs = (c.before.before.before.before.before.before.before.before.before.before.requires.1.0, omega (arith, c.before.before.before.if1.false))
+leaf-requires : (t : ℕ) → operand-lts.Need-leaf-end-requires (claims t) (operand_at t) operand.Post invariant_loop decreases_loop
+leaf-requires t c κs = (c.requires.1.0, omega (arith, c.if-code-a.false))
 
-same-length-2 : (t : ℕ) → operand-lts.Need-same-length-2 (claims t) (operand_at t) operand.Post invariant_loop decreases_loop
-same-length-2 t c = c.before.before.Opens-before.ensures.same ∙ c.before.before.before.before.before.before.leaf.ensures.1.same ∙ c.before.before.before.before.before.before.before.before.before.before.before.loop.invariant.3
+same-length-2 : (t : ℕ) → operand-lts.Need-shape_of-out-then-op-le3 (claims t) (operand_at t) operand.Post invariant_loop decreases_loop
+same-length-2 t c = c.opens_before-first.ensures.same ∙ c.leaf-end.ensures.1.same ∙ c.loop-a.invariant.3
 
-returns-2 : (t : ℕ) → operand-lts.Need-returns-2 (claims t) (operand_at t) operand.Post invariant_loop decreases_loop
-returns-2 t c = let i = c.before.before.before.before.before.before.before.before.before.before.before.loop.invariant in let o = c.before.before.before.before.before.before.leaf.ensures in ((omega (arith, i.0, o.0.0), o.0.1), spine_leaf _ _ c.before.before.before.before.before.before.before.before.before.before.before.before.before.before.before.before.before.args.at _ _ _ _ _ _ _ _ _ _ _ c.before.before.before.before.before.before.before.before.if2.true i.3 i.4 o.1 c.before.before.Opens-before.ensures)
+returns-2 : (t : ℕ) → operand-lts.Need-returns-then-op-le3 (claims t) (operand_at t) operand.Post invariant_loop decreases_loop
+returns-2 t c = let i = c.loop-a.invariant in let o = c.leaf-end.ensures in ((omega (arith, i.0, o.0.0), o.0.1), spine_leaf _ _ c.args.at _ _ _ _ _ _ _ _ _ _ _ c.if-op-le3.true i.3 i.4 o.1 c.opens_before-first.ensures)
 
-operand-requires : (t : ℕ) → operand-lts.Need-operand-requires (claims t) (operand_at t) operand.Post invariant_loop decreases_loop
-operand-requires t c κs = (omega (arith, c.before.before.before.before.before.before.before.if1.false), (c.before.before.before.before.before.before.before.before.before.before.before.before.before.before.requires.1.0, omega (arith, c.before.before.before.before.before.before.before.if1.false)))
+operand-requires : (t : ℕ) → operand-lts.Need-operand-right-requires (claims t) (operand_at t) operand.Post invariant_loop decreases_loop
+operand-requires t c κs = (omega (arith, c.if-code-a.false), (c.requires.1.0, omega (arith, c.if-code-a.false)))
 
-same-length-3 : (t : ℕ) → operand-lts.Need-same-length-3 (claims t) (operand_at t) operand.Post invariant_loop decreases_loop
-same-length-3 t c = c.before.before.opens-before2.ensures.same ∙ c.before.before.before.before.before.before.prefix-before.ensures.same ∙ c.before.before.before.before.before.before.before.before.before.before.before.before.operand.ensures.1.same ∙ c.before.before.before.before.before.before.before.before.before.before.before.before.before.before.before.before.byte-before.ensures.same ∙ c.before.before.before.before.before.before.before.before.before.before.before.before.before.before.before.before.before.before.before.before.before.loop.invariant.3
+same-length-3 : (t : ℕ) → operand-lts.Need-shape_of-out-then-is_prefix (claims t) (operand_at t) operand.Post invariant_loop decreases_loop
+same-length-3 t c = c.opens_before-first-then-is_prefix.ensures.same ∙ c.prefix_before-sign.ensures.same ∙ c.operand-right.ensures.1.same ∙ c.byte_before-close.ensures.same ∙ c.loop-a.invariant.3
 
-returns-3 : (t : ℕ) → operand-lts.Need-returns-3 (claims t) (operand_at t) operand.Post invariant_loop decreases_loop
-returns-3 t c = let i = c.before.before.before.before.before.before.before.before.before.before.before.before.before.before.before.before.before.before.before.before.before.loop.invariant in let o = c.before.before.before.before.before.before.before.before.before.before.before.before.operand.ensures in ((omega (arith, i.0, o.0.0), o.0.1), spine_prefix _ _ c.before.before.before.before.before.before.before.before.before.before.before.before.before.before.before.before.before.before.before.before.before.before.before.before.before.before.before.args.at _ _ _ _ _ _ _ _ _ _ _ _ _ _ _ c.before.before.before.before.before.before.before.before.before.before.before.before.before.before.before.before.before.before.if2.false (sym c.before.before.before.before.before.before.before.before.before.is-prefix.ensures ∙ c.before.before.before.before.before.before.before.before.if3.true) i.3 i.4 c.before.before.before.before.before.before.before.before.before.before.before.before.before.before.before.before.byte-before.ensures o.1 c.before.before.before.before.before.before.prefix-before.ensures c.before.before.opens-before2.ensures)
+returns-3 : (t : ℕ) → operand-lts.Need-returns-then-is_prefix (claims t) (operand_at t) operand.Post invariant_loop decreases_loop
+returns-3 t c = let i = c.loop-a.invariant in let o = c.operand-right.ensures in ((omega (arith, i.0, o.0.0), o.0.1), spine_prefix _ _ c.args.at _ _ _ _ _ _ _ _ _ _ _ _ _ _ _ c.if-op-le3.false (sym c.is_prefix.ensures ∙ c.if-is_prefix.true) i.3 i.4 c.byte_before-close.ensures o.1 c.prefix_before-sign.ensures c.opens_before-first-then-is_prefix.ensures)
 
-add_pending : (t : ℕ) → operand-lts.Need-overflow-add-pending (claims t) (operand_at t) operand.Post invariant_loop decreases_loop
-add_pending t c = let i = c.before.before.before.before.before.before.before.before.before.before.before.before.before.before.before.before.before.loop.invariant in omega (arith, i.1, i.2, c.before.before.before.before.before.before.before.before.before.before.before.before.before.before.before.before.if1.false)
+add_pending : (t : ℕ) → operand-lts.Need-overflow_add-pending (claims t) (operand_at t) operand.Post invariant_loop decreases_loop
+add_pending t c = let i = c.loop-a.invariant in omega (arith, i.1, i.2, c.if-code-a.false)
 
-loop-less : (t : ℕ) → operand-lts.Need-loop-smaller (claims t) (operand_at t) operand.Post invariant_loop decreases_loop
-loop-less t c = let o = c.before.before.before.before.before.before.before.before.operand.ensures in omega (arith, o.0.0, c.before.before.before.before.before.before.before.before.before.before.before.before.before.before.before.before.if1.false)
+loop-less : (t : ℕ) → operand-lts.Need-loop-a-smaller (claims t) (operand_at t) operand.Post invariant_loop decreases_loop
+loop-less t c = let o = c.operand-right.ensures in omega (arith, o.0.0, c.if-code-a.false)
 
-loop-again : (t : ℕ) → operand-lts.Need-loop-preserved (claims t) (operand_at t) operand.Post invariant_loop decreases_loop
-loop-again t c = let i = c.before.before.before.before.before.before.before.before.before.before.before.before.before.before.before.before.before.loop.invariant in let o = c.before.before.before.before.before.before.before.before.operand.ensures in (omega (arith, i.0, o.0.0), o.0.1, omega (arith, i.2, o.0.0), c.before.before.sign-before.ensures.same ∙ o.1.same ∙ c.before.before.before.before.before.before.before.before.before.before.before.before.byte-before.ensures.same ∙ i.3, spine_goes _ _ c.before.before.before.before.before.before.before.before.before.before.before.before.before.before.before.before.before.before.before.before.before.before.before.args.at _ _ _ _ _ _ _ _ _ _ _ _ _ c.before.before.before.before.before.before.before.before.before.before.before.before.before.before.if2.false (sym c.before.before.before.before.before.is-prefix.ensures ∙ c.before.before.before.before.if3.false) i.4 c.before.before.before.before.before.before.before.before.before.before.before.before.byte-before.ensures o.1 c.before.before.sign-before.ensures)
+loop-again : (t : ℕ) → operand-lts.Need-loop-a-preserved (claims t) (operand_at t) operand.Post invariant_loop decreases_loop
+loop-again t c = let i = c.loop-a.invariant in let o = c.operand-right.ensures in (omega (arith, i.0, o.0.0), o.0.1, omega (arith, i.2, o.0.0), c.sign_before-place.ensures.same ∙ o.1.same ∙ c.byte_before-close.ensures.same ∙ i.3, spine_goes _ _ c.args.at _ _ _ _ _ _ _ _ _ _ _ _ _ c.if-op-le3.false (sym c.is_prefix.ensures ∙ c.if-is_prefix.false) i.4 c.byte_before-close.ensures o.1 c.sign_before-place.ensures)
 
 pub +operand_spec : {M : Type 1} → statement M
 +operand_spec = close μ_operand λ t. operand-lts.spec (claims t) (operand_at t) operand.Post invariant_loop decreases_loop (loop-holds t) (same_length t) (returns t) (λ c. search rules) (λ c. search rules) (leaf-requires t) (λ c κs. search rules) (same-length-2 t) (returns-2 t) (λ c κs. search rules) (operand-requires t) (λ c κs. search rules) (λ c κs. search rules) (λ c κs. search rules) (same-length-3 t) (returns-3 t) (λ c κs. search rules) (add_pending t) (loop-less t) (loop-again t)

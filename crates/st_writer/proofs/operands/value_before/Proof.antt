@@ -6,17 +6,17 @@ use Rattle.st_writer.specs.Inner.Operands.{leaf_printed}
 use Rattle.st_writer.proofs.operands.value_before.Statement.{statement}
 use Rattle.st_writer.proofs.operands.value_before.Tie as tie
 
-returns : tie.Need-returns
+returns : tie.Need-returns-then-op-eq1
 unfolding leaf_printed
-returns c = as_front (λ l. rw c.before.before.before.before.if1.true) c.before.before.constant-before.ensures
+returns c = as_front (λ l. rw c.if-op-eq1.true) c.constant_before.ensures
 
-returns-2 : tie.Need-returns-2
+returns-2 : tie.Need-returns-then-op-eq2
 unfolding leaf_printed
-returns-2 c = as_front (λ l. rw c.if2.true) c.before.before.before.name-before.ensures
+returns-2 c = as_front (λ l. rw c.if-op-eq2.true) c.name_before-first.ensures
 
-returns-3 : tie.Need-returns-3
+returns-3 : tie.Need-returns
 unfolding leaf_printed
-returns-3 c = as_front (λ l. rw (ne_eqb _ _ c.before.before.before.before.before.before.before.before.before.if1.false, ne_eqb _ _ c.before.before.before.before.if2.false)) (fronts_then c.before.before.before.before.before.before.before.name-before.ensures c.before.before.byte-before.ensures)
+returns-3 c = as_front (λ l. rw (ne_eqb _ _ c.if-op-eq1.false, ne_eqb _ _ c.if-op-eq2.false)) (fronts_then c.name_before-first.ensures c.byte_before.ensures)
 
 pub value_before_spec : {M : Type 1} → statement M
 value_before_spec =

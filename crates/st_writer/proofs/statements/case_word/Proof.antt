@@ -7,19 +7,19 @@ use mathlib.Core.Bool.{Bool}
 use Rattle.st_writer.proofs.statements.case_word.Statement.{statement}
 use Rattle.st_writer.proofs.statements.case_word.Tie as tie
 
-same_length : tie.Need-same-length
-same_length c = c.before.before.bytes-before.ensures.same
+same_length : tie.Need-shape_of-out-then-later
+same_length c = c.bytes_before.ensures.same
 
-returns : tie.Need-returns
-returns c = as_front (λ l. ap (λ (b : Bool). word_before b l) c.before.before.before.before.before.if1.true) c.before.before.bytes-before.ensures
+returns : tie.Need-returns-then-later
+returns c = as_front (λ l. ap (λ (b : Bool). word_before b l) c.if-later.true) c.bytes_before.ensures
 
-same-length-2 : tie.Need-same-length-2
-same-length-2 c = c.before.before.bytes-before2.ensures.same
+same-length-2 : tie.Need-shape_of-out
+same-length-2 c = c.bytes_before-2.ensures.same
 
-returns-2 : tie.Need-returns-2
-returns-2 c = as_front (λ l. ap (λ (b : Bool). word_before b l) c.before.before.before.before.before.if1.false) c.before.before.bytes-before2.ensures
+returns-2 : tie.Need-returns
+returns-2 c = as_front (λ l. ap (λ (b : Bool). word_before b l) c.if-later.false) c.bytes_before-2.ensures
 
 pub case_word_spec : {M : Type 1} → statement M
 case_word_spec =
     tie.close
-    (tie.spec (λ c. search rules) (λ c κs. search rules) same_length returns (λ c. search rules) (λ c κs. search rules) same-length-2 returns-2)
+    (tie.spec (λ c. search rules) same_length returns (λ c. search rules) same-length-2 returns-2)
