@@ -43,10 +43,28 @@ class Function:
         for (old, new), (place, _) in zip(entry["needs"], entry["asked_at"]):
             self.at[new] = self.index[flat(place)]
         self.types = {flat(p[0]): n for p, n in zip(self.places, self.new)}
+        self.moved = {}
         self.words = {}
         for (old, new), _ in entry["loops"]:
             for word in ("invariant", "decreases"):
                 self.words[f"{word}-{flat(old)}"] = f"{word}-{new}"
+
+    def rank(self, text, module):
+        """Goals named after a temporary: by order, where the numbers moved."""
+        said, asked = {}, {}
+        for m in re.finditer(rf"(?<![^\s(){{}};,]){re.escape(module)}\.Need-({WORD})", text):
+            k = re.fullmatch(r"(?:overflow-|nonzero-|zero-|bounds-|shift-|slice-bounds-)?(.*-t)(\d+)", flat(m[1]))
+            if k:
+                said.setdefault(k[1], set()).add(int(k[2]))
+        for old in self.goals:
+            k = re.fullmatch(r"(.*-t)(\d+)", old)
+            if k:
+                asked.setdefault(k[1], set()).add(int(k[2]))
+        self.moved = {}
+        for stem, numbers in said.items():
+            if stem in asked and not numbers <= asked[stem] and len(numbers) == len(asked[stem]):
+                for a, b in zip(sorted(numbers), sorted(asked[stem])):
+                    self.moved[f"{stem}{a}"] = f"{stem}{b}"
 
     def goal(self, name):
         """The new name of a goal, of an invariant's type or of a place's."""
@@ -56,6 +74,7 @@ class Function:
         if n.startswith("need-"):
             n = n[5:]
             for m in (n, re.sub(r"^(overflow|nonzero|zero|bounds|shape-of|shift|slice-bounds)-", "", n)):
+                m = self.moved.get(m, m)
                 if m in self.goals:
                     return "Need-" + self.goals[m]
             for new in self.at:
@@ -88,7 +107,7 @@ class Function:
     def step(self, p, q, rest):
         """The path from a variable at p to the fields `rest` of the place q, or None."""
         if rest[0] in START:
-            return rest
+            return [rest[0], *(x.replace("-", "_") for x in rest[1:])]
         # a step's old name is one of its own on the way up
         field, q = flat(rest[0]), p
         while q is not None and flat(self.places[q][2][0]) != field:
@@ -328,7 +347,7 @@ class File:
         f = self.modules[m[1]]
         if f is None:
             return m[0]
-        if m[2] in ("spec", "close", "Claims") or m[2].startswith(("Lts", "Pre", "Post")):
+        if m[2] in ("spec", "close", "Claims", "Closed") or m[2].startswith(("Lts", "Pre", "Post")):
             return m[0]
         new = f.goal(m[2])
         if new is None:
@@ -431,11 +450,11 @@ def main():
         names = json.load(f)
     for crate in sys.argv[2:]:
         top = f"crates/{crate}/proofs"
-        for folder, _, files in os.walk(top):
-            if "Proof.antt" not in files:
+        for p in sorted(os.path.join(folder, n) for folder, _, files in os.walk(top) for n in files if n.endswith(".antt")):
+            m = re.search(rf"^{top}/(.+?)/Proof(/.*)?\.antt$", p)
+            if not m:
                 continue
-            p = os.path.join(folder, "Proof.antt")
-            path = os.path.relpath(folder, top).replace("/", ".")
+            path = m[1].replace("/", ".")
             with open(p, encoding="utf-8") as f:
                 text = f.read()
             modules = {}
@@ -446,16 +465,17 @@ def main():
                     print(f"left: {p}: no names for {m[1]}")
                 else:
                     modules[m[3]] = Function(entry)
-            if not modules:
-                continue
-            file = File(text, modules, p)
-            new = file.turned()
+                    modules[m[3]].rank(text, m[3])
+            new = text
+            if modules:
+                file = File(text, modules, p)
+                new = file.turned()
+                for it in dict.fromkeys(file.left):
+                    print(it)
             # the proof of a function f is f_spec
             m = re.search(r"^pub (\S+) : \{M : Type 1\} → statement M$", new, re.M)
             if m:
                 new = re.sub(rf"(?<!\S){re.escape(m[1])}(?!\S)", path.rsplit(".", 1)[-1] + "_spec", new)
-            for it in dict.fromkeys(file.left):
-                print(it)
             if new != text:
                 with open(p, "w", encoding="utf-8") as f:
                     f.write(new)

@@ -17,7 +17,7 @@ use Rattle.grammar.proofs.Accepted.{parse_growth, program_parsed, program_transl
 use Rattle.grammar.proofs.PlacesText.{program_refused}
 use Rattle.grammar.proofs.ConverseText.{accepted_exactly, one_meaning}
 use Rattle.faults.proofs.TextPlaces.{fault_places}
-use Rattle.faults.proofs.FirstFound.{first_found_lem}
+use Rattle.faults.proofs.FirstFound.{first_found}
 use Rattle.faults.proofs.ViableText.{allowed_before}
 use Rattle.faults.proofs.SoleText.{none_go_on}
 use Rattle.faults.proofs.NoneBegun.{none_begun}
@@ -90,7 +90,7 @@ demand_2 = record {
 pub refusals : Refusals
 refusals = record {
   fault_places = fault_places;
-  first_found_lem = first_found_lem;
+  first_found = first_found;
   allowed_before = allowed_before;
   none_go_on = none_go_on;
   none_begun = none_begun;

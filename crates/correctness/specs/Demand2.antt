@@ -71,7 +71,7 @@ pub record Refusals : Type 0 where
   -- A fault is 9, at 0, exactly if the text is over its limit; 1 stands where no token does; every other at a token or at the end.
   pub fault_places : FaultPlaces
   -- It is the first found: what stands behind its token does not count.
-  pub first_found_lem : FirstFound
+  pub first_found : FirstFound
   -- 2: what stands before its token begins a text of the grammar, and no text of the grammar goes on with that token.
   pub allowed_before : AllowedBefore
   pub none_go_on : NoneGoOn

@@ -85,5 +85,5 @@ first text twin number place e l x h h' = go (parse_refusal text number place e)
     go (read i y) =
         answer (short_parse twin h' ∙ (twin_refused text twin 0 number place program program_alike l x y (sym (short_parse text h) ∙ refused_parse text number place e)).0)
 
-pub first_found_lem : FirstFound
-first_found_lem = record { first_found_lem = first }
+pub first_found : FirstFound
+first_found = record { first_found = first }

@@ -24,7 +24,7 @@ use Rattle.faults.specs.Texts.{SameThrough}
 use Rattle.faults.specs.Grammar.{GoodNames, NoneBegun}
 use Rattle.faults.proofs.Readings.{whole_expression_reads, listed_reads}
 use Rattle.faults.proofs.AlikeParts.{scope, whole_expression_alike, listed_alike}
-use Rattle.faults.proofs.FirstFound.{twin_refused, first_found_lem}
+use Rattle.faults.proofs.FirstFound.{twin_refused, first_found}
 
 expressions : (sc : Scope) (other : List ℕ) (at number place : ℕ) → GoodNames sc.names → whole_expression sc at ≡ refused number place → place < length sc.text → SameThrough sc.text other place
     → (ts : Tokens) (e : Expression) (n : ℕ) → SpellsE (normals sc.names) D.expression bracket_limit ts e → UsableE sc.known e → Spells normal other at n (ts ++ bytes ")" ∷ []) → ⊥

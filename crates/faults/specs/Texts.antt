@@ -50,5 +50,5 @@ pub record SameThrough (text other : List ℕ) (place : ℕ) : Type 0 where
 -- Checks of a text go token by token; the first found is answered: nothing behind the token refused counts, as long as the text has no more
 -- than 32,768 bytes. (At the end of the text nothing is claimed: more may follow there.)
 pub record FirstFound : Type 0 where
-  pub first_found_lem : (text other : List ℕ) (number place : ℕ) → program_of text ≡ refused number place → place < length text → SameThrough text other place
+  pub first_found : (text other : List ℕ) (number place : ℕ) → program_of text ≡ refused number place → place < length text → SameThrough text other place
       → length text ≤ text_limit → length other ≤ text_limit → program_of other ≡ refused number place

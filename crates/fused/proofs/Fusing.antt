@@ -194,7 +194,7 @@ fusing_leaps {code} _ _ _ _ _ _ _ (lastly b vals cur vals₁ cur₁ k m) f deepe
 fusing_leaps {code} {low} {high} {prev} {inputs} {cur₀} {vals₀} {steps} _ _ _ _ _ _ _ (first n b vals cur vals₁ cur₁ m vals₂ cur₂ k o deep wide rest) f deeper wider =
     let on = fusing_goes f vals₁ cur₁ m (one_next code b.at o.stride.instruction m.at o.stride.fetched).0 o deep wide in
     let e : steps + 1 + n ≡ steps + (1 + n) = omega arith in
-    subst (λ (s : ℕ). Fusing code low high prev inputs cur₀ vals₀ cur₂ vals₂ k s) e (fusing_leaps n m vals₁ cur₁ k vals₂ cur₂ rest on (deeper ∙ sym deep) (wider ∙ sym wide))
+    subst (λ (s : ℕ). Fusing code low high prev inputs cur₀ vals₀ cur₂ vals₂ k s) e (fusing_leaps {steps = steps + 1} n m vals₁ cur₁ k vals₂ cur₂ rest on (deeper ∙ sym deep) (wider ∙ sym wide))
 
 -- ---- what is passed over first
 

@@ -7,8 +7,7 @@ use Rattle.closed.proofs.closed_part.Tie as tie
 returns : tie.Need-returns
 unfolding closed_part_of
 returns c =
-    let at-closed-in = c.before.before.before.before.before.before.before.before in
-    (at-closed-in.closed_in.ensures.0, at-closed-in.closed_in.ensures.1)
+    (c.closed_in-answer.ensures.0, c.closed_in-answer.ensures.1)
 
 pub closed_part_spec : {M : Type 1} → statement M
 closed_part_spec =

@@ -7,7 +7,7 @@ use Rattle.closed.proofs.closed_profile.Statement.{statement}
 use Rattle.closed.proofs.closed_profile.Tie as tie
 
 returns : tie.Need-returns
-returns c = (c.closed-part.ensures.0 ∙ sym ((closed_in_parts c.before.before.args.image.now).whole 65536 (omega arith)), c.closed-part.ensures.1)
+returns c = (c.closed_part.ensures.0 ∙ sym ((closed_in_parts c.args.image.now).whole 65536 (omega arith)), c.closed_part.ensures.1)
 
 pub closed_profile_spec : {M : Type 1} → statement M
 closed_profile_spec = tie.close (tie.spec (λ c κs. search rules) returns)

@@ -14,98 +14,74 @@ use Rattle.closed.proofs.Profiles.{ranges_taken, capped_product, too_large, Size
 use Rattle.closed.proofs.closed_ranges.Statement.{statement}
 use Rattle.closed.proofs.closed_ranges.Tie as tie
 
-slice-aggregate-product-of-sizes : tie.Need-slice-aggregate-product-of-sizes
-slice-aggregate-product-of-sizes c = sym (length-take-le _ _ c.before.before.before.requires.0)
+slice-aggregate-product-of-sizes : tie.Need-slice_bounds-product_of_sizes-end
+slice-aggregate-product-of-sizes c = sym (length-take-le _ _ c.requires.0)
 
-slice-aggregate-product-of-sizes-2 : tie.Need-slice-aggregate-product-of-sizes-2
+slice-aggregate-product-of-sizes-2 : tie.Need-slice_bounds-product_of_sizes-end-2
 slice-aggregate-product-of-sizes-2 c =
-    let start = c.before.before.before.before in
-    sym (length-take-le _ _ (omega (arith, start.requires.0, start.requires.1.0.highs)))
+    sym (length-take-le _ _ (omega (arith, c.requires.0, c.requires.1.0.highs)))
 
-mul-all : tie.Need-overflow-mul-all
+mul-all : tie.Need-overflow_mul-all
 mul-all c =
-    let at-product-of-sizes = c.before.before.before in
-    omega (arith, capped_product at-product-of-sizes.product-of-sizes.result c.product-of-sizes2.result at-product-of-sizes.product-of-sizes.ensures.1.1 c.product-of-sizes2.ensures.1.1)
+    omega (arith, capped_product c.product_of_sizes-states.result c.product_of_sizes-rows.result c.product_of_sizes-states.ensures.1.1 c.product_of_sizes-rows.ensures.1.1)
 
-returns : tie.Need-returns
+returns : tie.Need-returns-then-all-gt-COMBINATION_LIMIT
 returns c =
-    let at-product-of-sizes = c.before.before.before.before in
-    let start = at-product-of-sizes.before.before in
-    (λ ns r. rw (too_large (product_of_sizes ns) (product_of_sizes (take start.args.inputs ns)) at-product-of-sizes.product-of-sizes.result c.before.product-of-sizes2.result (at-product-of-sizes.product-of-sizes.ensures.0 ns r) (c.before.product-of-sizes2.ensures.0 (take start.args.inputs ns) (ranges_taken start.args.inputs ns _ _ r)) c.if1.true), omega arith)
+    (λ ns r. rw (too_large (product_of_sizes ns) (product_of_sizes (take c.args.inputs ns)) c.product_of_sizes-states.result c.product_of_sizes-rows.result (c.product_of_sizes-states.ensures.0 ns r) (c.product_of_sizes-rows.ensures.0 (take c.args.inputs ns) (ranges_taken c.args.inputs ns _ _ r)) c.if-all-gt-COMBINATION_LIMIT.true), omega arith)
 
 -- the products are small enough
-sized_by : (c : tie.Else1) (ns : List Range) → RangesIn ns c.before.before.before.before.before.before.args.low.now c.before.before.before.before.before.before.args.high.now → Sized (product_of_sizes ns) (product_of_sizes (take c.before.before.before.before.before.before.args.inputs ns)) c.before.before.before.before.product-of-sizes.result c.before.product-of-sizes2.result
+sized_by : (c : tie.Else-all-gt-COMBINATION_LIMIT) (ns : List Range) → RangesIn ns c.args.low.now c.args.high.now → Sized (product_of_sizes ns) (product_of_sizes (take c.args.inputs ns)) c.product_of_sizes-states.result c.product_of_sizes-rows.result
 sized_by c ns r =
-    let at-product-of-sizes = c.before.before.before.before in
-    let start = at-product-of-sizes.before.before in
-    sized (product_of_sizes ns) (product_of_sizes (take start.args.inputs ns)) at-product-of-sizes.product-of-sizes.result c.before.product-of-sizes2.result (at-product-of-sizes.product-of-sizes.ensures.0 ns r) (c.before.product-of-sizes2.ensures.0 (take start.args.inputs ns) (ranges_taken start.args.inputs ns _ _ r)) at-product-of-sizes.product-of-sizes.ensures.1.0 c.before.product-of-sizes2.ensures.1.0 c.if1.false
+    sized (product_of_sizes ns) (product_of_sizes (take c.args.inputs ns)) c.product_of_sizes-states.result c.product_of_sizes-rows.result (c.product_of_sizes-states.ensures.0 ns r) (c.product_of_sizes-rows.ensures.0 (take c.args.inputs ns) (ranges_taken c.args.inputs ns _ _ r)) c.product_of_sizes-states.ensures.1.0 c.product_of_sizes-rows.ensures.1.0 c.if-all-gt-COMBINATION_LIMIT.false
 
-returns-2 : tie.Need-returns-2
+returns-2 : tie.Need-returns-then-all-first
 returns-2 c =
-    let start = c.before.before.before.before.before.before.before in
-    (λ ns r. let z = sized_by c.before ns r in closed_beyond ns start.args.inputs start.args.code.now start.args.first start.args.most start.args.state.now start.args.row.now z.small (rw (← z.first, ← z.second) c.if2.true), tt)
+    (λ ns r. let z = sized_by c.before ns r in closed_beyond ns c.args.inputs c.args.code.now c.args.first c.args.most c.args.state.now c.args.row.now z.small (rw (← z.first, ← z.second) c.if-all-first.true), tt)
 
 -- where the part ends, of all the combinations
-ends_at : (c : tie.After-behind) (ns : List Range) → RangesIn ns c.before.before.before.before.before.before.before.before.args.low.now c.before.before.before.before.before.before.before.before.args.high.now → c.behind.result ≡ min (c.before.before.before.before.before.before.before.before.args.first + c.before.before.before.before.before.before.before.before.args.most) (product_of_sizes ns * product_of_sizes (take c.before.before.before.before.before.before.before.before.args.inputs ns))
-ends_at c ns r = let z = sized_by c.before.before ns r in rw (← z.first, ← z.second) c.behind.ensures
+ends_at : (c : tie.After-behind-end) (ns : List Range) → RangesIn ns c.args.low.now c.args.high.now → c.behind-end.result ≡ min (c.args.first + c.args.most) (product_of_sizes ns * product_of_sizes (take c.args.inputs ns))
+ends_at c ns r = let z = sized_by c.before.before ns r in rw (← z.first, ← z.second) c.behind-end.ensures
 
-begins_among : (c : tie.Else2) (ns : List Range) → RangesIn ns c.before.before.before.before.before.before.before.args.low.now c.before.before.before.before.before.before.before.args.high.now → c.before.before.before.before.before.before.before.args.first ≤ product_of_sizes ns * product_of_sizes (take c.before.before.before.before.before.before.before.args.inputs ns)
-begins_among c ns r = let z = sized_by c.before ns r in rw (← z.first, ← z.second) (omega (arith, c.if2.false))
+begins_among : (c : tie.Else-all-first) (ns : List Range) → RangesIn ns c.args.low.now c.args.high.now → c.args.first ≤ product_of_sizes ns * product_of_sizes (take c.args.inputs ns)
+begins_among c ns r = let z = sized_by c.before ns r in rw (← z.first, ← z.second) (omega (arith, c.if-all-first.false))
 
-slice-aggregate-walk : tie.Need-slice-aggregate-walk
+slice-aggregate-walk : tie.Need-slice_bounds-walk-end
 slice-aggregate-walk c =
-    sym (length-take-le _ _ c.before.before.before.before.before.before.before.before.before.requires.0)
+    sym (length-take-le _ _ c.requires.0)
 
-slice-aggregate-walk-2 : tie.Need-slice-aggregate-walk-2
+slice-aggregate-walk-2 : tie.Need-slice_bounds-walk-end-2
 slice-aggregate-walk-2 c =
-    let start = c.before.before.before.before.before.before.before.before.before.before in
-    sym (length-take-le _ _ (omega (arith, start.requires.0, start.requires.1.0.highs)))
+    sym (length-take-le _ _ (omega (arith, c.requires.0, c.requires.1.0.highs)))
 
-walk-requires : tie.Need-walk-requires
+walk-requires : tie.Need-walk-ended-requires
 walk-requires c κs =
-    let at-behind = c.before.before.before.before.before.before in
-    let at-if1 = at-behind.before.before in
-    let at-product-of-sizes2 = at-if1.before in
-    let start = at-product-of-sizes2.before.before.before.before.before in
-    (start.requires.1.0, (at-product-of-sizes2.product-of-sizes2.ensures.1.0, omega (arith, at-behind.behind.ensures, c.before.before.before.before.before.before.before.if2.false), omega (arith, at-behind.behind.ensures, at-if1.if1.false)))
+    (c.requires.1.0, (c.product_of_sizes-rows.ensures.1.0, omega (arith, c.behind-end.ensures, c.if-all-first.false), omega (arith, c.behind-end.ensures, c.if-all-gt-COMBINATION_LIMIT.false)))
 
-returns-3 : tie.Need-returns-3
+returns-3 : tie.Need-returns-in_default
 returns-3 c =
-    let at-walk = c.before.before.before.before.before.before in
-    let at-behind = at-walk.before.before.before.before.before.before.before in
-    let start = at-behind.before.before.before.before.before.before.before.before in
-    let at-behind = c.before.before.before.before.before.before.before.before.before.before.before.before.before in (
-      λ ns r. let z = sized_by at-behind.before.before ns r in let n = ends_at at-behind ns r in closed_through ns start.args.inputs start.args.code.now start.args.first start.args.most start.args.state.now start.args.row.now z.small at-behind.behind.result (begins_among at-behind.before ns r) n at-walk.walk.result at-walk.walk.new.1.1.1.1.1.1.1.1.0 at-walk.walk.new.1.1.1.1.1.1.1.1.1.0
-          (at-walk.walk.ensures.0 ns (take start.args.inputs ns) r (ranges_taken start.args.inputs ns _ _ r) z.second (omega (arith, n))) c.enum_told.given.1,
+    let c.before.before.before.before.before.before.before.before.before.before.before.before = c in (
+      λ ns r. let z = sized_by c.before.before.before.before.before.before.before.before.before.before.before.before ns r in let n = ends_at c.before.before.before.before.before.before.before.before.before.before ns r in closed_through ns c.args.inputs c.args.code.now c.args.first c.args.most c.args.state.now c.args.row.now z.small c.behind-end.result (begins_among c.before.before.before.before.before.before.before.before.before.before.before ns r) n c.walk-ended.result c.walk-ended.new.state c.walk-ended.new.row
+          (c.walk-ended.ensures.0 ns (take c.args.inputs ns) r (ranges_taken c.args.inputs ns _ _ r) z.second (omega (arith, n))) c.in_default.is,
       tt,
     )
 
 fill-requires : tie.Need-fill-requires
 fill-requires c κs =
-    let at-walk = c.before.before.before.before.before.before.before.before.before in
-    let start = at-walk.before.before.before.before.before.before.before.before.before.before.before.before.before.before.before in
-    omega (arith, at-walk.walk.auto.1.1.1.1.1.1.1.1.0, start.requires.1.0.states, start.requires.1.1.0)
+    omega (arith, c.walk-ended.auto.state, c.requires.1.0.states, c.requires.1.1.0)
 
 fill-requires-2 : tie.Need-fill-requires-2
 fill-requires-2 c κs =
-    let at-walk = c.before.before.before.before.before.before.before.before.before.before.before.before.before in
-    let start = at-walk.before.before.before.before.before.before.before.before.before.before.before.before.before.before.before in
-    let k = length-take-le start.args.inputs start.args.low.now start.requires.0 in omega (arith, k, at-walk.walk.auto.1.1.1.1.1.1.1.1.1.0, start.requires.1.0.rows, start.requires.1.1.1)
+    let k = length-take-le c.args.inputs c.args.low.now c.requires.0 in omega (arith, k, c.walk-ended.auto.row, c.requires.1.0.rows, c.requires.1.1.1)
 
-returns-4 : tie.Need-returns-4
+returns-4 : tie.Need-returns
 returns-4 c =
-    let at_fill_lem = c.before.before.before.before.before in
-    let at_ended = at_fill_lem.before.before.before.before in
-    let at-walk = at_ended.before.before.before.before.before.before in
-    let at-behind = at-walk.before.before.before.before.before.before.before in
-    let start = at-behind.before.before.before.before.before.before.before.before in
-    let at-behind = c.before.before.before.before.before.before.before.before.before.before.before.before.before.before.before.before.before.before.before.before.before.before in (
+    let c.before.before.before.before.before.before.before.before.before.before.before.before.before.before.before.before.before.before.before.before = c in (
       λ ns r.
-          let z = sized_by at-behind.before.before ns r in
-          let n = ends_at at-behind ns r in
-          closed_stopped ns start.args.inputs start.args.code.now start.args.first start.args.most start.args.state.now start.args.row.now z.small at-behind.behind.result (begins_among at-behind.before ns r) n at-walk.walk.result at-walk.walk.new.1.1.1.1.1.1.1.1.0 at-walk.walk.new.1.1.1.1.1.1.1.1.1.0 at_fill_lem.fill.new.0 c.before.fill2.new.0 at_ended.ended.given.0.0
-          (at-walk.walk.ensures.0 ns (take start.args.inputs ns) r (ranges_taken start.args.inputs ns _ _ r) z.second (omega (arith, n))) at_ended.ended.given.1 at_fill_lem.fill.ensures c.before.fill2.ensures,
-      let w = subst VisitedWithin at_ended.ended.given.1 at-walk.walk.ensures.1 in omega arith,
+          let z = sized_by c.before.before.before.before.before.before.before.before.before.before.before.before.before.before.before.before.before.before ns r in
+          let n = ends_at c.before.before.before.before.before.before.before.before.before.before.before.before.before.before.before.before ns r in
+          closed_stopped ns c.args.inputs c.args.code.now c.args.first c.args.most c.args.state.now c.args.row.now z.small c.behind-end.result (begins_among c.before.before.before.before.before.before.before.before.before.before.before.before.before.before.before.before.before ns r) n c.walk-ended.result c.walk-ended.new.state c.walk-ended.new.row c.fill.new.to c.fill-2.new.to c.in-Until.done
+          (c.walk-ended.ensures.0 ns (take c.args.inputs ns) r (ranges_taken c.args.inputs ns _ _ r) z.second (omega (arith, n))) c.in-Until.is c.fill.ensures c.fill-2.ensures,
+      let w = subst VisitedWithin c.in-Until.is c.walk-ended.ensures.1 in omega arith,
     )
 
 pub closed_ranges_spec : {M : Type 1} → statement M

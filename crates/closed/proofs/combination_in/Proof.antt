@@ -16,53 +16,52 @@ use Rattle.closed.proofs.combination_in.Statement.{statement}
 use Rattle.closed.proofs.combination_in.Tie as tie
 
 -- its shape was read
-shaped : (c : tie.After-known-told2) → Measures c.before.before.before.before.before.before.before.before.before.args.image.now c.before.before.before.before.before.before.before.before.before.args.low.now c.before.before.before.before.before.before.before.before.before.args.high.now c.before.before.before.before.before.shape.new.1.0 c.before.before.before.before.before.shape.new.1.1.0 c.before.shaped2.given.0.0
-shaped c = subst (ShapedAs _ _ _ _ _) c.before.shaped2.given.1 c.before.before.before.before.before.shape.ensures.so
+shaped : (c : tie.In-Shape) → Measures c.args.image.now c.args.low.now c.args.high.now c.shape-shaped.new.low c.shape-shaped.new.high c.in-Shape.m
+shaped c = subst (ShapedAs _ _ _ _ _) c.in-Shape.is c.shape-shaped.ensures.so
 
 -- there is room for the names
-low_room : (c : tie.Else1) → c.before.before.before.shaped2.given.0.0.names ≤ length c.before.before.before.before.before.before.before.shape.new.1.0
-low_room c = omega (arith, (shaped c.before.before).few, c.before.before.before.before.before.before.before.before.before.before.before.requires.0, c.before.before.before.before.before.before.before.shape.auto.1.0)
+low_room : (c : tie.Else-m) → c.in-Shape.m.names ≤ length c.shape-shaped.new.low
+low_room c = omega (arith, (shaped c.before.before).few, c.requires.0, c.shape-shaped.auto.low)
 
-high_room : (c : tie.Else1) → c.before.before.before.shaped2.given.0.0.names ≤ length c.before.before.before.before.before.before.before.shape.new.1.1.0
-high_room c = omega (arith, (shaped c.before.before).few, c.before.before.before.before.before.before.before.before.before.before.before.requires.1, c.before.before.before.before.before.before.before.shape.auto.1.1.0)
+high_room : (c : tie.Else-m) → c.in-Shape.m.names ≤ length c.shape-shaped.new.high
+high_room c = omega (arith, (shaped c.before.before).few, c.requires.1, c.shape-shaped.auto.high)
 
-returns : tie.Need-returns
+returns : tie.Need-returns-then-m
 unfolding combination_of
 returns c =
     let s = shaped c.before.before in
-    (small_timed c.before.before.before.before.before.before.before.before.before.before.before.args.image.now c.before.before.before.before.before.before.before.before.before.before.before.args.state.now c.before.before.before.before.before.before.before.before.before.before.before.args.row.now _ s.sound (s.timed ∙ lt-ltb c.before.before.before.shaped2.given.0.0.names c.before.before.before.shaped2.given.0.0.size c.if1.true), omega arith)
+    (small_timed c.args.image.now c.args.state.now c.args.row.now _ s.sound (s.timed ∙ lt-ltb c.in-Shape.m.names c.in-Shape.m.size c.if-m.true), omega arith)
 
-slice-aggregate-combination-ranges : tie.Need-slice-aggregate-combination-ranges
-slice-aggregate-combination-ranges c = sym (length-take-le _ _ (low_room c.before))
+slice-aggregate-combination-ranges : tie.Need-slice_bounds-combination_ranges-end-in-Shape
+slice-aggregate-combination-ranges c = sym (length-take-le _ _ (low_room c))
 
-slice-reshare-prefix-combination-ranges-2 : tie.Need-slice-reshare-prefix-combination-ranges-2
-slice-reshare-prefix-combination-ranges-2 c = high_room c.before
+slice-reshare-prefix-combination-ranges-2 : tie.Need-slice_bounds-combination_ranges-end-in-Shape-2
+slice-reshare-prefix-combination-ranges-2 c = high_room c
 
-slice-aggregate-combination-ranges-2 : tie.Need-slice-aggregate-combination-ranges-2
-slice-aggregate-combination-ranges-2 c = sym (length-take-le _ _ (high_room c.before.before))
+slice-aggregate-combination-ranges-2 : tie.Need-slice_bounds-combination_ranges-end-in-Shape-3
+slice-aggregate-combination-ranges-2 c = sym (length-take-le _ _ (high_room c))
 
-combination-ranges-requires : tie.Need-combination-ranges-requires
+combination-ranges-requires : tie.Need-combination_ranges-requires
 combination-ranges-requires c κs =
-    let e = c.before.before.before.before in
-    let k = length-take-le c.before.before.before.before.before.before.before.shaped2.given.0.0.names c.before.before.before.before.before.before.before.before.before.before.before.shape.new.1.0 (low_room e) in
-    (omega (arith, k, (shaped e.before.before).among), length-take-le _ _ (high_room e) ∙ sym k)
+    let k = length-take-le c.in-Shape.m.names c.shape-shaped.new.low (low_room c.before.before) in
+    (omega (arith, k, (shaped c.before.before.before.before).among), length-take-le _ _ (high_room c.before.before) ∙ sym k)
 
-returns-2 : tie.Need-returns-2
+returns-2 : tie.Need-returns-in-Refused
 unfolding combination_of
 returns-2 c =
-    let r = subst (ShapedAs _ _ _ _ _) c.before.shaped.given.1 c.before.before.before.before.before.shape.ensures.so in
-    (small_refused c.before.before.before.before.before.before.before.before.before.args.image.now c.before.before.before.before.before.before.before.before.before.args.state.now c.before.before.before.before.before.before.before.before.before.args.row.now _ _ _ r.0, r.1)
+    let r = subst (ShapedAs _ _ _ _ _) c.in-Refused.is c.shape-shaped.ensures.so in
+    (small_refused c.args.image.now c.args.state.now c.args.row.now _ _ _ r.0, r.1)
 
-returns-3 : tie.Need-returns-3
+returns-3 : tie.Need-returns-else-m
 returns-3 c =
-    let s = shaped c.before.before.before.before.before.before.before.before.before in
-    let image = c.before.before.before.before.before.before.before.before.before.before.before.before.before.before.before.before.before.before.args.image.now in
-    let untimed = s.timed ∙ le-ltb c.before.before.before.before.before.before.before.before.before.before.shaped2.given.0.0.names c.before.before.before.before.before.before.before.before.before.before.shaped2.given.0.0.size c.before.before.before.before.before.before.before.if1.false in
+    let s = shaped c.before.before.before.before.before.before.before in
+    let image = c.args.image.now in
+    let untimed = s.timed ∙ le-ltb c.in-Shape.m.names c.in-Shape.m.size c.if-m.false in
     let cut = cells_untimed image untimed in
     let stored =
-    ranges_stored (header_of image).ranges c.before.before.before.before.before.before.before.before.before.before.shaped2.given.0.0.names c.before.before.before.before.before.before.before.before.before.before.before.before.before.before.before.before.before.before.args.low.now c.before.before.before.before.before.before.before.before.before.before.before.before.before.before.shape.new.1.0 c.before.before.before.before.before.before.before.before.before.before.before.before.before.before.before.before.before.before.args.high.now c.before.before.before.before.before.before.before.before.before.before.before.before.before.before.shape.new.1.1.0 s.names_are
-    (omega (arith, s.few, c.before.before.before.before.before.before.before.before.before.before.before.before.before.before.before.before.before.before.requires.0)) (omega (arith, s.few, c.before.before.before.before.before.before.before.before.before.before.before.before.before.before.before.before.before.before.requires.1)) (rw (← cut) s.lower) (rw (← cut) s.upper) in
-    (c.before.before.combination-ranges.ensures.0 (header_of image).ranges stored ∙ combination_from image c.before.before.before.before.before.before.before.before.before.before.before.before.before.before.before.before.before.before.args.state.now c.before.before.before.before.before.before.before.before.before.before.before.before.before.before.before.before.before.before.args.row.now c.before.before.before.before.before.before.before.before.before.before.before.before.before.before.before.before.before.before.args.index c.before.before.before.before.before.before.before.before.before.before.shaped2.given.0.0.inputs s.sound s.inputs_are untimed, c.before.before.combination-ranges.ensures.1)
+    ranges_stored (header_of image).ranges c.in-Shape.m.names c.args.low.now c.shape-shaped.new.low c.args.high.now c.shape-shaped.new.high s.names_are
+    (omega (arith, s.few, c.requires.0)) (omega (arith, s.few, c.requires.1)) (rw (← cut) s.lower) (rw (← cut) s.upper) in
+    (c.combination_ranges.ensures.0 (header_of image).ranges stored ∙ combination_from image c.args.state.now c.args.row.now c.args.index c.in-Shape.m.inputs s.sound s.inputs_are untimed, c.combination_ranges.ensures.1)
 
 pub combination_in_spec : {M : Type 1} → statement M
 combination_in_spec =

@@ -16,44 +16,37 @@ use Rattle.closed.proofs.Products.{product_goes, product_ends, capped_over, prod
 use Rattle.closed.proofs.product_of_sizes.Statement.{statement}
 use Rattle.closed.proofs.product_of_sizes.Tie as tie
 
-abbrev invariant_loop : tie.invariant_loop
+abbrev invariant_loop : tie.invariant-loop-i
 invariant_loop low high p₀ i₀ p i =
     (i ≤ length low) × (1 ≤ p) × (p ≤ 65536) × ((ns : List Range) → RangesIn ns low high → product_of_sizes ns ≡ p * product_of_sizes (drop i ns))
 
-abbrev decreases_loop : tie.decreases_loop
+abbrev decreases_loop : tie.decreases-loop-i
 decreases_loop low high p₀ i₀ p i = length low - i
 
-loop-holds : tie.Need-loop-init invariant_loop decreases_loop
+loop-holds : tie.Need-loop-i-init invariant_loop decreases_loop
 loop-holds c = (omega arith, omega arith, omega arith, λ ns r. omega arith)
 
 -- the size that was read
-size_is : (c : tie.After-size invariant_loop decreases_loop) → c.size.result ≡ size_between (get_or c.before.before.before.before.before.args.low.now c.before.before.before.before.loop.i (pos 0)) (get_or c.before.before.before.before.before.args.high.now c.before.before.before.before.loop.i (pos 0))
+size_is : (c : tie.After-size-p invariant_loop decreases_loop) → c.size-p.result ≡ size_between (get_or c.args.low.now c.loop-i.i (pos 0)) (get_or c.args.high.now c.loop-i.i (pos 0))
 size_is c =
-    let at-loop = c.before.before.before.before in
-    let start = at-loop.before in
-    let fl : SFits w32 (get_or start.args.low.now at-loop.loop.i (pos 0)) = record { sfits = c.before.before.size-arg.given } in
-    let fh : SFits w32 (get_or start.args.high.now at-loop.loop.i (pos 0)) = record { sfits = c.before.size-arg2.given } in
-    c.size.ensures.0 ∙ rw (same32 fl, same32 fh)
+    let fl : SFits w32 (get_or c.args.low.now c.loop-i.i (pos 0)) = record { sfits = c.size-arg-1.given } in
+    let fh : SFits w32 (get_or c.args.high.now c.loop-i.i (pos 0)) = record { sfits = c.size-arg-in-loop-i-1.given } in
+    c.size-p.ensures.0 ∙ rw (same32 fl, same32 fh)
 
-mul-p : tie.Need-overflow-mul-p invariant_loop decreases_loop
+mul-p : tie.Need-overflow_mul-p invariant_loop decreases_loop
 mul-p c =
-    let at-loop = c.before.before.before.before in
-    omega (arith, product_fits at-loop.loop.p c.size.result at-loop.loop.invariant.2 c.size.ensures.1)
+    omega (arith, product_fits c.loop-i.p c.size-p.result c.loop-i.invariant.2 c.size-p.ensures.1)
 
-returns : tie.Need-returns invariant_loop decreases_loop
+returns : tie.Need-returns-then-p-gt-COMBINATION_LIMIT invariant_loop decreases_loop
 returns c =
-    let at-loop-test = c.before.before.before.before in
-    let at-loop = at-loop-test.before in
-    (λ ns r. capped_over ns (drop (at-loop.loop.i + 1) ns) _ (product_goes ns _ _ r at-loop.loop.p at-loop.loop.i (at-loop.loop.invariant.3 ns r) at-loop-test.loop-test.true c.before.size.result (size_is c.before)) c.if1.true, (omega arith, omega arith))
+    (λ ns r. capped_over ns (drop (c.loop-i.i + 1) ns) _ (product_goes ns _ _ r c.loop-i.p c.loop-i.i (c.loop-i.invariant.3 ns r) c.loop-i-test.true c.size-p.result (size_is c.before)) c.if-p-gt-COMBINATION_LIMIT.true, (omega arith, omega arith))
 
-loop-again : tie.Need-loop-preserved invariant_loop decreases_loop
+loop-again : tie.Need-loop-i-preserved invariant_loop decreases_loop
 loop-again c =
-    let at-loop-test = c.before.before.before.before in
-    let at-loop = at-loop-test.before in
-    (omega arith, product-least at-loop.loop.p c.before.size.result at-loop.loop.invariant.1 (size_least _ _ _ (size_is c.before)), c.if1.false, λ ns r. product_goes ns _ _ r at-loop.loop.p at-loop.loop.i (at-loop.loop.invariant.3 ns r) at-loop-test.loop-test.true c.before.size.result (size_is c.before))
+    (omega arith, product-least c.loop-i.p c.size-p.result c.loop-i.invariant.1 (size_least _ _ _ (size_is c.before)), c.if-p-gt-COMBINATION_LIMIT.false, λ ns r. product_goes ns _ _ r c.loop-i.p c.loop-i.i (c.loop-i.invariant.3 ns r) c.loop-i-test.true c.size-p.result (size_is c.before))
 
-returns-2 : tie.Need-returns-2 invariant_loop decreases_loop
-returns-2 c = (λ ns r. let e = product_ends ns _ _ r c.before.loop.p c.before.loop.i (c.before.loop.invariant.3 ns r) c.loop-test.false c.before.loop.invariant.0 in omega arith, (c.before.loop.invariant.1, omega (arith, c.before.loop.invariant.2)))
+returns-2 : tie.Need-returns invariant_loop decreases_loop
+returns-2 c = (λ ns r. let e = product_ends ns _ _ r c.loop-i.p c.loop-i.i (c.loop-i.invariant.3 ns r) c.loop-i-test.false c.loop-i.invariant.0 in omega arith, (c.loop-i.invariant.1, omega (arith, c.loop-i.invariant.2)))
 
 pub product_of_sizes_spec : {M : Type 1} → statement M
 product_of_sizes_spec =

@@ -12,31 +12,31 @@ use Rattle.closed.proofs.Whole.{span, size_empty, above_limit}
 use Rattle.closed.proofs.size.Statement.{statement}
 use Rattle.closed.proofs.size.Tie as tie
 
-returns : tie.Need-returns
+returns : tie.Need-returns-then-high-low
 returns c =
-    let f = c.before.ranges in
-    rw (size_empty c.before.args.low c.before.args.high (rw (same32 f.high, same32 f.low) at c.if1.true)) (omega arith)
+    let f = c.ranges in
+    rw (size_empty c.args.low c.args.high (rw (same32 f.high, same32 f.low) at c.if-high-low.true)) (omega arith)
 
 -- what the code subtracts
-difference : (c : tie.Else1)
-    → to_z w64 (of_z w64 (cast64 c.before.args.high -ℤ cast64 c.before.args.low)) ≡ pos (above_zero (c.before.args.high -ℤ c.before.args.low))
+difference : (c : tie.Else-high-low)
+    → to_z w64 (of_z w64 (cast64 c.args.high -ℤ cast64 c.args.low)) ≡ pos (above_zero (c.args.high -ℤ c.args.low))
 difference c =
-    let f = c.before.ranges in
-    let e : lt_z c.before.args.high c.before.args.low ≡ false = rw (same32 f.high, same32 f.low) at c.if1.false in
-    op_is (λ a b. a -ℤ b) f.high f.low (sub_fits f.high f.low) ∙ span c.before.args.low c.before.args.high e
+    let f = c.ranges in
+    let e : lt_z c.args.high c.args.low ≡ false = rw (same32 f.high, same32 f.low) at c.if-high-low.false in
+    op_is (λ a b. a -ℤ b) f.high f.low (sub_fits f.high f.low) ∙ span c.args.low c.args.high e
 
-sub-result : tie.Need-overflow-sub-result
-sub-result c = op_fits (λ a b. a -ℤ b) c.before.ranges.high c.before.ranges.low (sub_fits c.before.ranges.high c.before.ranges.low)
+sub-result : tie.Need-overflow_sub-result
+sub-result c = op_fits (λ a b. a -ℤ b) c.ranges.high c.ranges.low (sub_fits c.ranges.high c.ranges.low)
 
-cast-result-3 : tie.Need-overflow-cast-result-3
-cast-result-3 c = rw (difference c) (tt, omega (arith, above_limit c.before.args.low c.before.args.high c.before.ranges.low.sfits c.before.ranges.high.sfits))
+cast-result-3 : tie.Need-overflow_cast-result-3
+cast-result-3 c = rw (difference c) (tt, omega (arith, above_limit c.args.low c.args.high c.ranges.low.sfits c.ranges.high.sfits))
 
-add-result : tie.Need-overflow-add-result
-add-result c = rw (difference c) (omega (arith, above_limit c.before.args.low c.before.args.high c.before.ranges.low.sfits c.before.ranges.high.sfits))
+add-result : tie.Need-overflow_add-result
+add-result c = rw (difference c) (omega (arith, above_limit c.args.low c.args.high c.ranges.low.sfits c.ranges.high.sfits))
 
-returns-2 : tie.Need-returns-2
+returns-2 : tie.Need-returns
 unfolding size_between
-returns-2 c = rw (difference c) (omega (arith, above_limit c.before.args.low c.before.args.high c.before.ranges.low.sfits c.before.ranges.high.sfits))
+returns-2 c = rw (difference c) (omega (arith, above_limit c.args.low c.args.high c.ranges.low.sfits c.ranges.high.sfits))
 
 pub size_spec : {M : Type 1} → statement M
-size_spec = tie.close (tie.spec returns (λ c. widens c.before.ranges.high) (λ c. widens c.before.ranges.low) sub-result cast-result-3 add-result returns-2)
+size_spec = tie.close (tie.spec returns (λ c. widens c.ranges.high) (λ c. widens c.ranges.low) sub-result cast-result-3 add-result returns-2)

@@ -6,26 +6,25 @@ use Rattle.scan.proofs.Scanning.{code_done, code_refused}
 use Rattle.scan.proofs.run_over.Statement.{statement}
 use Rattle.scan.proofs.run_over.Tie as tie
 
-run-whole-requires : tie.Need-run-whole-requires
+run-whole-requires : tie.Need-run_whole-ran-requires
 run-whole-requires c κs =
-    (c.before.before.before.before.requires.1, record { highs = c.before.before.before.before.requires.0.highs ∙ sym c.before.before.before.before.requires.0.lows; previous = sym c.before.before.before.before.requires.0.lows; current = c.before.before.before.before.requires.0.copies ∙ sym c.before.before.before.before.requires.0.lows })
+    (c.requires.1, record { highs = c.requires.0.highs ∙ sym c.requires.0.lows; previous = sym c.requires.0.lows; current = c.requires.0.copies ∙ sym c.requires.0.lows })
 
-returns : tie.Need-returns
+returns : tie.Need-returns-in-Next
 returns c =
-    let a = c.before.before.before.before.before.before.before.before.before.before.before.before.before.args in
-    let ran = c.before.before.before.before.before.before.before.before.run-whole in
-    let told = c.before.before.before.before.enum_told.given in (
-      code_done a.code.now a.low.now a.high.now a.state.now a.work.now ran.new.1.1.1.1.1.0 ran.new.1.1.1.1.0 a.timing ran.result
-          ran.ensures.0 told.0.0 c.before.fill.new.0 told.1 (ran.auto.1.1.1.1.0 ∙ c.before.before.before.before.before.before.before.before.before.before.before.before.before.requires.0.copies) c.before.fill.ensures,
+    let a = c.args in
+    let ran = c.run_whole-ran in (
+      code_done a.code.now a.low.now a.high.now a.state.now a.work.now ran.new.vals ran.new.cur a.timing ran.result
+          ran.ensures.0 c.in-Next.field-0 c.fill.new.to c.in-Next.is (ran.auto.cur ∙ c.requires.0.copies) c.fill.ensures,
       ran.ensures.1,
     )
 
-returns-2 : tie.Need-returns-2
+returns-2 : tie.Need-returns-in-Refused
 returns-2 c =
-    let a = c.before.before.before.before.before.before.before.before.before.before.args in
-    let ran = c.before.before.before.before.before.run-whole in (
-      code_refused a.code.now a.low.now a.high.now a.state.now a.work.now ran.new.1.1.1.1.1.0 ran.new.1.1.1.1.0 a.timing ran.result
-          ran.ensures.0 c.before.last.given.0.0 c.before.last.given.1,
+    let a = c.args in
+    let ran = c.run_whole-ran in (
+      code_refused a.code.now a.low.now a.high.now a.state.now a.work.now ran.new.vals ran.new.cur a.timing ran.result
+          ran.ensures.0 c.in-Refused.number c.in-Refused.is,
       (omega arith, ran.ensures.1),
     )
 

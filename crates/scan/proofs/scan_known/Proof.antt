@@ -14,38 +14,36 @@ use borrow.Author.Rules.{rules}
 use Rattle.scan.proofs.scan_known.Statement.{statement}
 use Rattle.scan.proofs.scan_known.Tie as tie
 
-before-known-requires : tie.Need-before-known-requires
-before-known-requires c κs = known_fits c.before.before.before.requires.0 c.before.before.before.requires.1.0
+before-known-requires : tie.Need-before_known-tested-requires
+before-known-requires c κs = known_fits c.requires.0 c.requires.1.0
 
-run-over-requires : tie.Need-run-over-requires
+run-over-requires : tie.Need-run_over-requires
 run-over-requires c κs =
-    let m = known_fits {work = c.before.before.before.before.before.before.before.before.before.before.before.before.args.work.now} c.before.before.before.before.before.before.before.before.before.before.before.before.requires.0 c.before.before.before.before.before.before.before.before.before.before.before.before.requires.1.0 in
-    (record { among = omega arith; lows = m.lows; highs = m.highs; copies = c.before.before.before.before.before.before.before.before.before-known.auto.1.1.1.1.1.0 ∙ c.before.before.before.before.before.before.before.before.before.before.before.before.requires.1.0 }, c.before.before.before.before.before.before.before.before.before.before.before.before.requires.1.1)
+    let m = known_fits {work = c.args.work.now} c.requires.0 c.requires.1.0 in
+    (record { among = omega arith; lows = m.lows; highs = m.highs; copies = c.before_known-tested.auto.work ∙ c.requires.1.0 }, c.requires.1.1)
 
-returns : tie.Need-returns
+returns : tie.Need-returns-in-Refused
 returns c =
-    let told = c.before.tested.given in
-    let k = c.before.before.before.before.before.before.before.before.requires.0 in
-    let image = c.before.before.before.before.before.before.before.before.args.image.now in
-    let state = c.before.before.before.before.before.before.before.before.args.state.now in
-    let row = c.before.before.before.before.before.before.before.before.args.row.now in
-    let p : told.0.1.0 ≡ 0 = subst (PreparedBy (shape_in image) c.before.before.before.before.before.before.before.before.args.m state row c.before.before.before.before.before-known.new.1.1.1.1.1.0) told.1 (c.before.before.before.before.before-known.ensures.1 (shape_in image) k.shape) in (
-      tests_refuse image state row told.0.0 0 (rw p at (sym (ap before_answer told.1) ∙ c.before.before.before.before.before-known.ensures.0 (shape_in image) k.shape ∙ before_rest image state row k.sound k.numbers)),
+    let k = c.requires.0 in
+    let image = c.args.image.now in
+    let state = c.args.state.now in
+    let row = c.args.row.now in
+    let p : c.in-Refused.field-1 ≡ 0 = subst (PreparedBy (shape_in image) c.args.m state row c.before_known-tested.new.work) c.in-Refused.is (c.before_known-tested.ensures.1 (shape_in image) k.shape) in (
+      tests_refuse image state row c.in-Refused.number 0 (rw p at (sym (ap before_answer c.in-Refused.is) ∙ c.before_known-tested.ensures.0 (shape_in image) k.shape ∙ before_rest image state row k.sound k.numbers)),
       (omega arith, omega arith),
     )
 
-returns-2 : tie.Need-returns-2
+returns-2 : tie.Need-returns-in-Code
 returns-2 c =
-    let told = c.before.before.before.before.before.before.before.before.before.tested2.given in
-    let k = c.before.before.before.before.before.before.before.before.before.before.before.before.before.before.before.before.requires.0 in
-    let image = c.before.before.before.before.before.before.before.before.before.before.before.before.before.before.before.before.args.image.now in
-    let place = c.before.before.before.before.before.before.before.before.before.before.before.before.before.before.before.before.args.m.place in
-    let state = c.before.before.before.before.before.before.before.before.before.before.before.before.before.before.before.before.args.state.now in
-    let row = c.before.before.before.before.before.before.before.before.before.before.before.before.before.before.before.before.args.row.now in
-    let x = (subst (PreparedBy (shape_in image) c.before.before.before.before.before.before.before.before.before.before.before.before.before.before.before.before.args.m state row c.before.before.before.before.before.before.before.before.before.before.before.before.before-known.new.1.1.1.1.1.0) told.1 (c.before.before.before.before.before.before.before.before.before.before.before.before.before-known.ensures.1 (shape_in image) k.shape)).1 in
-    let passes : accepted tt ≡ before_code image state row = sym (ap before_answer told.1) ∙ c.before.before.before.before.before.before.before.before.before.before.before.before.before-known.ensures.0 (shape_in image) k.shape ∙ before_rest image state row k.sound k.numbers in (
-      (rw (rest_of image place) at (c.before.before.before.run_over.ensures.0 (setting_of (shape_in image) row) k.shape.ranges x.timed)) ∙ tests_pass image state row passes place _ k.code x.copied,
-      within_image image place k.sound c.before.before.before.run_over.result (rw (rest_of image place) at c.before.before.before.run_over.ensures.1),
+    let k = c.requires.0 in
+    let image = c.args.image.now in
+    let place = c.args.m.place in
+    let state = c.args.state.now in
+    let row = c.args.row.now in
+    let x = (subst (PreparedBy (shape_in image) c.args.m state row c.before_known-tested.new.work) c.in-Code.is (c.before_known-tested.ensures.1 (shape_in image) k.shape)).1 in
+    let passes : accepted tt ≡ before_code image state row = sym (ap before_answer c.in-Code.is) ∙ c.before_known-tested.ensures.0 (shape_in image) k.shape ∙ before_rest image state row k.sound k.numbers in (
+      (rw (rest_of image place) at (c.run_over.ensures.0 (setting_of (shape_in image) row) k.shape.ranges x.timed)) ∙ tests_pass image state row passes place _ k.code x.copied,
+      within_image image place k.sound c.run_over.result (rw (rest_of image place) at c.run_over.ensures.1),
     )
 
 pub scan_known_spec : {M : Type 1} → statement M

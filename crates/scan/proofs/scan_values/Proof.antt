@@ -7,22 +7,22 @@ use borrow.Author.Rules.{rules}
 use Rattle.scan.proofs.scan_values.Statement.{statement}
 use Rattle.scan.proofs.scan_values.Tie as tie
 
-returns : tie.Need-returns
+returns : tie.Need-returns-then-not-all_in_range
 returns c = (
-  c.before.after_check.ensures.0 (λ s u. value_refused c.before.before.before.before.before.before.before.args.state.now c.before.before.before.before.before.before.before.args.row.now c.before.before.before.before.before.before.before.requires.1 s u (sym (c.before.before.before.before.all-in-range.ensures (header_of c.before.before.before.before.before.before.before.args.image.now).ranges (known_ranges c.before.before.before.before.before.before.before.requires.1)) ∙ not-true _ c.before.before.before.if1.true)),
-  c.before.after_check.ensures.1,
+  c.after_check.ensures.0 (λ s u. value_refused c.args.state.now c.args.row.now c.requires.1 s u (sym (c.all_in_range.ensures (header_of c.args.image.now).ranges (known_ranges c.requires.1)) ∙ not-true _ c.if-not-all_in_range.true-raw)),
+  c.after_check.ensures.1,
 )
 
-returns-2 : tie.Need-returns-2
+returns-2 : tie.Need-returns-then-not-all_in_range-2
 returns-2 c = (
-  c.before.after-check2.ensures.0 (λ s u. input_refused c.before.before.before.before.before.before.before.before.before.args.state.now c.before.before.before.before.before.before.before.before.before.args.row.now c.before.before.before.before.before.before.before.before.before.requires.1 s u (sym (c.before.before.before.before.before.before.all-in-range.ensures (header_of c.before.before.before.before.before.before.before.before.before.args.image.now).ranges (known_ranges c.before.before.before.before.before.before.before.before.before.requires.1)) ∙ not-false _ c.before.before.before.before.before.if1.false) (sym (c.before.before.before.before.all-in-range2.ensures (header_of c.before.before.before.before.before.before.before.before.before.args.image.now).ranges (known_ranges c.before.before.before.before.before.before.before.before.before.requires.1)) ∙ not-true _ c.before.before.before.if2.true)),
-  c.before.after-check2.ensures.1,
+  c.after_check-then-not-all_in_range-2.ensures.0 (λ s u. input_refused c.args.state.now c.args.row.now c.requires.1 s u (sym (c.all_in_range.ensures (header_of c.args.image.now).ranges (known_ranges c.requires.1)) ∙ not-false _ c.if-not-all_in_range.false-raw) (sym (c.all_in_range-2.ensures (header_of c.args.image.now).ranges (known_ranges c.requires.1)) ∙ not-true _ c.if-not-all_in_range-2.true-raw)),
+  c.after_check-then-not-all_in_range-2.ensures.1,
 )
 
-scan-code-requires : tie.Need-scan-code-requires
+scan-code-requires : tie.Need-scan_code-requires
 scan-code-requires c κs = (
-  c.before.before.before.before.before.before.before.before.requires.0,
-  (c.before.before.before.before.before.before.before.before.requires.1, (sym (c.before.before.before.before.before.all-in-range.ensures (header_of c.before.before.before.before.before.before.before.before.args.image.now).ranges (known_ranges c.before.before.before.before.before.before.before.before.requires.1)) ∙ not-false _ c.before.before.before.before.if1.false, sym (c.before.before.before.all-in-range2.ensures (header_of c.before.before.before.before.before.before.before.before.args.image.now).ranges (known_ranges c.before.before.before.before.before.before.before.before.requires.1)) ∙ not-false _ c.before.before.if2.false)),
+  c.requires.0,
+  (c.requires.1, (sym (c.all_in_range.ensures (header_of c.args.image.now).ranges (known_ranges c.requires.1)) ∙ not-false _ c.if-not-all_in_range.false-raw, sym (c.all_in_range-2.ensures (header_of c.args.image.now).ranges (known_ranges c.requires.1)) ∙ not-false _ c.if-not-all_in_range-2.false-raw)),
 )
 
 pub scan_values_spec : {M : Type 1} → statement M

@@ -5,12 +5,12 @@ use borrow.Author.Rules.{rules}
 use Rattle.scan.proofs.start.Statement.{statement}
 use Rattle.scan.proofs.start.Tie as tie
 
-returns : tie.Need-returns
-returns c = subst (StartedFor c.before.before.before.before.before.before.before.before.before.before.before.args.image.now _ _ _ _ _ _) c.before.shaped.given.1 c.before.before.before.before.before.before.start-shape.ensures
+returns : tie.Need-returns-in-Refused
+returns c = subst (StartedFor c.args.image.now _ _ _ _ _ _) c.in-Refused.is c.start_shape-shaped.ensures
 
-returns-2 : tie.Need-returns-2
+returns-2 : tie.Need-returns-in-Shape
 returns-2 c =
-    let h = subst (StartedFor c.before.before.before.before.before.before.before.before.before.before.args.image.now c.before.before.before.before.before.before.before.before.before.before.args.state.now _ _ _ _ _) c.enum_told.given.1 c.before.before.before.before.before.start-shape.ensures in
+    let h = subst (StartedFor c.args.image.now c.args.state.now _ _ _ _ _) c.in-Shape.is c.start_shape-shaped.ensures in
     (h.2, tt)
 
 pub start_spec : {M : Type 1} → statement M

@@ -22,11 +22,11 @@ use Rattle.expressions.proofs.expression.Kinds as expression-kinds
 use Rattle.expressions.proofs.+bracket_expression_factor_primary_term.Lts-expression as lts
 use Rattle.expressions.proofs.+bracket_expression_factor_primary_term.Proof.Measures.{μ-expression, μ-term}
 
-abbrev Inv-loop : lts.invariant_loop
+abbrev Inv-loop : lts.invariant-loop-behind
 Inv-loop text starts ends names at left out₀ to a₀ t₀ code₀ out a t code =
     Turn bytes_e operation sum_of (term_in left (scope_of text starts ends names)) text at to out₀ a t code out
 
-abbrev μ_loop : lts.decreases_loop
+abbrev μ_loop : lts.decreases-loop-behind
 μ_loop text starts ends names at left out₀ to a₀ t₀ code₀ out a t code = length text - a
 
 module _ (t : ℕ) where
@@ -44,10 +44,10 @@ module _ (t : ℕ) where
       (λ c κs. search (turn_room sums, arith))
       (λ c. search rules) (λ c. search rules)
       (λ c. cc)
-      (λ c. turn_refused sums _ _ c.before.before.before.before.before.before.loop.invariant c.before.before.before.before.term.ensures c.enum_told.given.1)
-      (λ c κs. turn_fits sums _ _ c.before.before.before.before.before.before.before.before.loop.invariant c.before.before.before.before.before.before.term.ensures c.before.before.part.given.1)
+      (λ c. turn_refused sums _ _ c.loop-behind.invariant c.term-part.ensures c.in_default.is)
+      (λ c κs. turn_fits sums _ _ c.loop-behind.invariant c.term-part.ensures c.in-Done.is)
       (λ c κs. search rules)
       (λ c. cc)
-      (λ c. turn_done sums _ _ c.before.before.before.before.before.before.before.before.before.before.before.before.before.loop.invariant c.before.before.before.before.before.before.before.before.before.before.before.term.ensures c.before.before.before.before.before.before.before.part.given.1 c.before.before.before.before.put-operator.ensures c.before.sum-code.ensures c.if1.true)
-      (λ c. turn_less sums _ _ c.before.before.before.before.before.before.before.before.before.before.before.before.before.loop.invariant c.before.before.before.before.before.before.before.before.before.before.before.term.ensures c.before.before.before.before.before.before.before.part.given.1 c.before.before.before.before.put-operator.ensures c.before.sum-code.ensures c.if1.false)
-      (λ c. turn_more sums _ _ c.before.before.before.before.before.before.before.before.before.before.before.before.before.loop.invariant c.before.before.before.before.before.before.before.before.before.before.before.term.ensures c.before.before.before.before.before.before.before.part.given.1 c.before.before.before.before.put-operator.ensures c.before.sum-code.ensures c.if1.false)
+      (λ c. turn_done sums _ _ c.loop-behind.invariant c.term-part.ensures c.in-Done.is c.put_operator.ensures c.sum_code-code.ensures c.if-code-eq0.true)
+      (λ c. turn_less sums _ _ c.loop-behind.invariant c.term-part.ensures c.in-Done.is c.put_operator.ensures c.sum_code-code.ensures c.if-code-eq0.false)
+      (λ c. turn_more sums _ _ c.loop-behind.invariant c.term-part.ensures c.in-Done.is c.put_operator.ensures c.sum_code-code.ensures c.if-code-eq0.false)

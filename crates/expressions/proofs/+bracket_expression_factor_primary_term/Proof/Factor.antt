@@ -28,27 +28,27 @@ module _ (t : ℕ) where
   met =
       lts.spec claims asked factor.Post
       (λ c κs. search rules) (λ c. search rules) (λ c. search rules)
-      (λ c. ahead_fault _ _ _ c.enum_told.given.1 c.before.before.ahead.ensures (factor_fault _ _ _ _ _ _))
+      (λ c. ahead_fault _ _ _ c.in_default.is c.ahead-read.ensures (factor_fault _ _ _ _ _ _))
       (λ c κs. search rules) (λ c. search rules) (λ c. search rules)
-      (λ c. operand-fault _ _ _ _ _ _ _ c.before.before.before.before.read.given.1 c.before.before.before.before.before.before.ahead.ensures c.before.before.behind-minus.ensures c.enum-told2.given.1)
+      (λ c. operand-fault _ _ _ _ _ _ _ c.in-Done.is c.ahead-read.ensures c.behind_minus-second.ensures c.in_default-second.is)
       (λ c κs.
-      let asks = c.before.before.before.before.before.before.before.before.before.before.before.before.before.requires in (
+      let asks = c.requires in (
         omega (arith, asks.0),
         (
           asks.1.0,
           (
-            operand_room _ _ _ c.before.before.before.before.before.before.read.given.1 c.before.before.before.before.before.before.before.before.ahead.ensures c.before.before.before.before.behind-minus.ensures c.before.before.second.given.1 asks.1.1,
-            operand_stands _ _ _ c.before.before.before.before.before.before.read.given.1 c.before.before.before.before.before.before.before.before.ahead.ensures c.before.before.before.before.behind-minus.ensures c.before.before.second.given.1,
+            operand_room _ _ _ c.in-Done.is c.ahead-read.ensures c.behind_minus-second.ensures c.in-Done-second.is asks.1.1,
+            operand_stands _ _ _ c.in-Done.is c.ahead-read.ensures c.behind_minus-second.ensures c.in-Done-second.is,
           ),
         ),
       ))
       (λ c. search rules) (λ c. search rules) (λ c. search rules)
-      (λ c. factor_refuses _ _ _ _ _ _ _ c.before.before.before.before.before.before.before.before.before.before.before.read.given.1 c.before.before.before.before.before.before.before.before.before.before.before.before.before.ahead.ensures c.before.before.before.before.before.before.before.before.before.behind-minus.ensures c.before.before.before.before.before.before.before.second.given.1 c.before.before.before.before.primary.ensures c.enum-told3.given.1)
+      (λ c. factor_refuses _ _ _ _ _ _ _ c.in-Done.is c.ahead-read.ensures c.behind_minus-second.ensures c.in-Done-second.is c.primary-inner.ensures c.in_default-inner.is)
       (λ c κs. search rules)
       (λ c κs.
-      let asks = c.before.before.before.before.before.before.before.before.before.before.before.before.before.before.before.before.before.before.before.before.before.requires in
-      primary_fits _ _ _ _ _ c.before.before.before.inner.given.1 c.before.before.before.before.before.before.before.primary.ensures asks.1.0
-      (operand_room _ _ _ c.before.before.before.before.before.before.before.before.before.before.before.before.before.before.read.given.1 c.before.before.before.before.before.before.before.before.before.before.before.before.before.before.before.before.ahead.ensures c.before.before.before.before.before.before.before.before.before.before.before.before.behind-minus.ensures c.before.before.before.before.before.before.before.before.before.before.second.given.1 asks.1.1))
+      let asks = c.requires in
+      primary_fits _ _ _ _ _ c.in-Done-inner.is c.primary-inner.ensures asks.1.0
+      (operand_room _ _ _ c.in-Done.is c.ahead-read.ensures c.behind_minus-second.ensures c.in-Done-second.is asks.1.1))
       (λ c. search rules)
       (λ c.
-      factor_accepts _ _ _ _ _ _ _ c.before.before.before.before.before.before.before.before.before.before.before.before.before.before.before.before.before.read.given.1 c.before.before.before.before.before.before.before.before.before.before.before.before.before.before.before.before.before.before.before.ahead.ensures c.before.before.before.before.before.before.before.before.before.before.before.before.before.before.before.behind-minus.ensures c.before.before.before.before.before.before.before.before.before.before.before.before.before.second.given.1 c.before.before.before.before.before.before.before.before.before.before.primary.ensures c.before.before.before.before.before.before.inner.given.1 c.before.before.before.minus-code.ensures c.before.before.put-operator.ensures)
+      factor_accepts _ _ _ _ _ _ _ c.in-Done.is c.ahead-read.ensures c.behind_minus-second.ensures c.in-Done-second.is c.primary-inner.ensures c.in-Done-inner.is c.minus_code.ensures c.put_operator.ensures)

@@ -40,5 +40,5 @@ module _ (t : ℕ) where
       (λ c. search (same_part, primary_previous))
       (λ c κs. search (arith, room_next))
       (λ c. search rules)
-      (λ c. let asks = c.before.before.before.before.before.before.before.before.before.before.before.before.before.before.before.before.requires in search (same_part, primary_bracket))
+      (λ c. let asks = c.requires in search (same_part, primary_bracket))
       (λ c. search (refuses, refused_now, primary_none))

@@ -22,11 +22,11 @@ use Rattle.expressions.proofs.term.Kinds as term-kinds
 use Rattle.expressions.proofs.+bracket_expression_factor_primary_term.Lts-term as lts
 use Rattle.expressions.proofs.+bracket_expression_factor_primary_term.Proof.Measures.{μ-factor, μ-term}
 
-abbrev Inv-loop : lts.invariant_loop
+abbrev Inv-loop : lts.invariant-loop-behind
 Inv-loop text starts ends names at left out₀ to a₀ t₀ code₀ out a t code =
     Turn bytes_e operation product_of (factor_in left (scope_of text starts ends names)) text at to out₀ a t code out
 
-abbrev μ_loop : lts.decreases_loop
+abbrev μ_loop : lts.decreases-loop-behind
 μ_loop text starts ends names at left out₀ to a₀ t₀ code₀ out a t code = length text - a
 
 module _ (t : ℕ) where
@@ -44,10 +44,10 @@ module _ (t : ℕ) where
       (λ c κs. search (turn_room products, arith))
       (λ c. search rules) (λ c. search rules)
       (λ c. cc)
-      (λ c. turn_refused products _ _ c.before.before.before.before.before.before.loop.invariant c.before.before.before.before.factor.ensures c.enum_told.given.1)
-      (λ c κs. turn_fits products _ _ c.before.before.before.before.before.before.before.before.loop.invariant c.before.before.before.before.before.before.factor.ensures c.before.before.part.given.1)
+      (λ c. turn_refused products _ _ c.loop-behind.invariant c.factor-part.ensures c.in_default.is)
+      (λ c κs. turn_fits products _ _ c.loop-behind.invariant c.factor-part.ensures c.in-Done.is)
       (λ c κs. search rules)
       (λ c. cc)
-      (λ c. turn_done products _ _ c.before.before.before.before.before.before.before.before.before.before.before.before.before.loop.invariant c.before.before.before.before.before.before.before.before.before.before.before.factor.ensures c.before.before.before.before.before.before.before.part.given.1 c.before.before.before.before.put-operator.ensures c.before.product-code.ensures c.if1.true)
-      (λ c. turn_less products _ _ c.before.before.before.before.before.before.before.before.before.before.before.before.before.loop.invariant c.before.before.before.before.before.before.before.before.before.before.before.factor.ensures c.before.before.before.before.before.before.before.part.given.1 c.before.before.before.before.put-operator.ensures c.before.product-code.ensures c.if1.false)
-      (λ c. turn_more products _ _ c.before.before.before.before.before.before.before.before.before.before.before.before.before.loop.invariant c.before.before.before.before.before.before.before.before.before.before.before.factor.ensures c.before.before.before.before.before.before.before.part.given.1 c.before.before.before.before.put-operator.ensures c.before.product-code.ensures c.if1.false)
+      (λ c. turn_done products _ _ c.loop-behind.invariant c.factor-part.ensures c.in-Done.is c.put_operator.ensures c.product_code-code.ensures c.if-code-eq0.true)
+      (λ c. turn_less products _ _ c.loop-behind.invariant c.factor-part.ensures c.in-Done.is c.put_operator.ensures c.product_code-code.ensures c.if-code-eq0.false)
+      (λ c. turn_more products _ _ c.loop-behind.invariant c.factor-part.ensures c.in-Done.is c.put_operator.ensures c.product_code-code.ensures c.if-code-eq0.false)

@@ -25,13 +25,13 @@ settle-ahead-requires c κs =
     let p = passed_as _ _ c.pass.result _ c.pass.ensures c.in-On.is in
     (p.stride.small, omega (arith, names_stay p.stride.instruction (with_held c.args.b.walk c.skip-s.result.held) c.in-On.q.walk p.stride.advanced, c.requires.1.0), c.requires.1.1)
 
-add-t20 : tie.Need-overflow-add-t20
-add-t20 c = omega (arith, skips_far c.before.before.before.before.before.before.before.before.before.before.before.before.before.before.before.args.code.now c.before.before.before.before.before.before.before.before.before.before.before.before.before.before.before.args.b.walk c.before.before.before.before.before.before.before.before.before.before.before.before.before.before.before.args.b.at _ _ _ c.before.before.before.before.before.before.before.before.before.before.before.before.skip.ensures, c.before.before.before.before.before.before.before.before.before.before.if1.false, c.before.before.before.before.before.before.before.before.before.before.before.before.before.before.before.well_formed.0)
+add-t20 : tie.Need-overflow_add-result
+add-t20 c = omega (arith, skips_far c.args.code.now c.args.b.walk c.args.b.at _ _ _ c.skip-s.ensures, c.if-code-s.false, c.well_formed.0)
 
 returns-2 : tie.Need-returns-in_default
 returns-2 c = λ low high vals r. over_pick c.args.code.now r c.requires.0.3 _ _ _ c.skip-s.ensures _ (passed_as _ _ c.pass.result _ c.pass.ensures c.in-On.is) _ (settled_as _ _ _ _ _ c.settle_ahead.result _ c.settle_ahead.ensures c.in_default.is)
 
-add-t21 : tie.Need-overflow_add-result
+add-t21 : tie.Need-overflow_add-result-in-On
 add-t21 c = omega (arith, skips_far c.args.code.now c.args.b.walk c.args.b.at _ _ _ c.skip-s.ensures, c.if-code-s.false, c.well_formed.0)
 
 returns-3 : tie.Need-returns-then-s-eq0
