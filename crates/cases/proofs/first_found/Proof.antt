@@ -7,25 +7,25 @@ use borrow.Author.Rules.{rules}
 use Rattle.cases.proofs.first_found.Statement.{statement}
 use Rattle.cases.proofs.first_found.Tie as tie
 
-returns : tie.Need-returns
+returns : tie.Need-returns-in_default
 unfolding place_only
-returns c = λ p e. rw (place_accepted p (sym e ∙ ap (parsed_of nothing) c.enum_told.given.1) _)
+returns c = λ p e. rw (place_accepted p (sym e ∙ ap (parsed_of nothing) c.in_default.is) _)
 
-returns-2 : tie.Need-returns-2
+returns-2 : tie.Need-returns-then-p-m
 unfolding place_only
-returns-2 c = λ p e. let r = place_refused p (sym e ∙ ap (parsed_of nothing) c.before.before.read.given.1) in rw (first_found_before r _ c.if1.true)
+returns-2 c = λ p e. let r = place_refused p (sym e ∙ ap (parsed_of nothing) c.in-Refused.is) in rw (first_found_before r _ c.if-p-m.true)
 
-returns-3 : tie.Need-returns-3
+returns-3 : tie.Need-returns-then-k-le5
 unfolding place_only
-returns-3 c = λ p e. let r = place_refused p (sym e ∙ ap (parsed_of nothing) c.before.before.before.before.read.given.1) in rw (first_found_here r _ c.before.before.if1.false c.before.if2.true c.if3.true)
+returns-3 c = λ p e. let r = place_refused p (sym e ∙ ap (parsed_of nothing) c.in-Refused.is) in rw (first_found_here r _ c.if-p-m.false c.if-p-m-2.true c.if-k-le5.true)
 
-returns-4 : tie.Need-returns-4
+returns-4 : tie.Need-returns-else-k-le5
 unfolding place_only
-returns-4 c = λ p e. let r = place_refused p (sym e ∙ ap (parsed_of nothing) c.before.before.before.before.read.given.1) in rw (first_found_late r _ c.before.before.if1.false c.before.if2.true c.if3.false)
+returns-4 c = λ p e. let r = place_refused p (sym e ∙ ap (parsed_of nothing) c.in-Refused.is) in rw (first_found_late r _ c.if-p-m.false c.if-p-m-2.true c.if-k-le5.false)
 
-returns-5 : tie.Need-returns-5
+returns-5 : tie.Need-returns-else-p-m-2
 unfolding place_only
-returns-5 c = λ p e. let r = place_refused p (sym e ∙ ap (parsed_of nothing) c.before.before.before.read.given.1) in rw (first_found_after r _ c.before.if1.false c.if2.false)
+returns-5 c = λ p e. let r = place_refused p (sym e ∙ ap (parsed_of nothing) c.in-Refused.is) in rw (first_found_after r _ c.if-p-m.false c.if-p-m-2.false)
 
 pub first_found_spec : {M : Type 1} → statement M
 first_found_spec = tie.close (tie.spec (λ c. search rules) (λ c. search rules) returns returns-2 returns-3 returns-4 returns-5)

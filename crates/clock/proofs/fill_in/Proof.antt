@@ -12,52 +12,52 @@ use Rattle.clock.proofs.Service.{inputs_limited, minute_fits, text_refused, tabl
 use Rattle.clock.proofs.fill_in.Statement.{statement}
 use Rattle.clock.proofs.fill_in.Tie as tie
 
-returns : tie.Need-returns
+returns : tie.Need-returns-then-not-is_table
 returns c =
-    let d = analysed_text c.before.before.before.before.before.before.before.before.before.analyse.ensures c.before.before.before.analysis.given.1 in
-    (table_refused _ _ _ _ d (sym c.before.is-table.ensures ∙ not-true _ c.if1.true), omega arith)
+    let d = analysed_text c.analyse-analysis.ensures c.in-Accepted.is in
+    (table_refused _ _ _ _ d (sym c.is_table.ensures ∙ not-true _ c.if-not-is_table.true-raw), omega arith)
 
-returns-2 : tie.Need-returns-2
+returns-2 : tie.Need-returns-then-not-is_minute
 returns-2 c =
-    let d = analysed_text c.before.before.before.before.before.before.before.before.before.before.before.analyse.ensures c.before.before.before.before.before.analysis.given.1 in
-    let m : is_minute c.before.before.before.before.before.before.before.before.before.before.before.before.before.before.before.before.before.args.utc ≡ false = sym (rw (same64 c.before.before.before.before.before.before.before.before.before.before.before.before.before.before.before.before.before.ranges.utc) at c.before.is-minute.ensures) ∙ not-true _ c.if2.true in
-    (minute_refused _ _ _ _ d (sym c.before.before.before.is-table.ensures ∙ not-false _ c.before.before.if1.false) m, omega arith)
+    let d = analysed_text c.analyse-analysis.ensures c.in-Accepted.is in
+    let m : is_minute c.args.utc ≡ false = sym (rw (same64 c.ranges.utc) at c.is_minute.ensures) ∙ not-true _ c.if-not-is_minute.true-raw in
+    (minute_refused _ _ _ _ d (sym c.is_table.ensures ∙ not-false _ c.if-not-is_table.false-raw) m, omega arith)
 
-row-length-requires : tie.Need-row-length-requires
+row-length-requires : tie.Need-row_length-requires
 row-length-requires c κs =
-    let d = analysed_text c.before.before.before.before.before.before.before.before.before.before.before.analyse.ensures c.before.before.before.before.before.analysis.given.1 in
+    let d = analysed_text c.analyse-analysis.ensures c.in-Accepted.is in
     inputs_limited d
 
-returns-3 : tie.Need-returns-3
+returns-3 : tie.Need-returns-then-row-row_length
 returns-3 c =
-    let d = analysed_text c.before.before.before.before.before.before.before.before.before.before.before.before.before.analyse.ensures c.before.before.before.before.before.before.before.analysis.given.1 in
-    let m : is_minute c.before.before.before.before.before.before.before.before.before.before.before.before.before.before.before.before.before.before.before.args.utc ≡ true = sym (rw (same64 c.before.before.before.before.before.before.before.before.before.before.before.before.before.before.before.before.before.before.before.ranges.utc) at c.before.before.before.is-minute.ensures) ∙ not-false _ c.before.before.if2.false in
-    (length_refused _ _ _ _ d (sym c.before.before.before.before.before.is-table.ensures ∙ not-false _ c.before.before.before.before.if1.false) m (λ e. omega (arith, c.if3.true, e, c.before.row_length_lem.ensures)), omega arith)
+    let d = analysed_text c.analyse-analysis.ensures c.in-Accepted.is in
+    let m : is_minute c.args.utc ≡ true = sym (rw (same64 c.ranges.utc) at c.is_minute.ensures) ∙ not-false _ c.if-not-is_minute.false-raw in
+    (length_refused _ _ _ _ d (sym c.is_table.ensures ∙ not-false _ c.if-not-is_table.false-raw) m (λ e. omega (arith, c.if-row-row_length.true, e, c.row_length.ensures)), omega arith)
 
-slice-relend-prefix-fill-row : tie.Need-slice-relend-prefix-fill-row
-slice-relend-prefix-fill-row c = omega (arith, c.before.before.if3.false, c.before.before.before.row_length_lem.ensures, row_few c.before.before.before.before.before.before.before.before.before.analysis.given.0.1.0 c.before.before.before.before.before.before.before.before.before.analysis.given.0.1.1.1.0)
+slice-relend-prefix-fill-row : tie.Need-slice_bounds-fill_row-end
+slice-relend-prefix-fill-row c = omega (arith, c.if-row-row_length.false, c.row_length.ensures, row_few c.in-Accepted.inputs c.in-Accepted.timers)
 
-slice-aggregate-fill-row : tie.Need-slice-aggregate-fill-row
-slice-aggregate-fill-row c = sym (front_length _ c.before.before.before.before.before.before.before.before.before.before.analysis.given.0.1.0 c.before.before.before.before.before.before.before.before.before.before.analysis.given.0.1.1.1.0 (c.before.before.before.if3.false ∙ c.before.before.before.before.row_length_lem.ensures))
+slice-aggregate-fill-row : tie.Need-slice_bounds-fill_row-end-in-Accepted
+slice-aggregate-fill-row c = sym (front_length _ c.in-Accepted.inputs c.in-Accepted.timers (c.if-row-row_length.false ∙ c.row_length.ensures))
 
-fill-row-requires : tie.Need-fill-row-requires
+fill-row-requires : tie.Need-fill_row-requires
 fill-row-requires c κs =
-    let d = analysed_text c.before.before.before.before.before.before.before.before.before.before.before.before.before.before.before.before.analyse.ensures c.before.before.before.before.before.before.before.before.before.before.analysis.given.1 in
-    let m : is_minute c.before.before.before.before.before.before.before.before.before.before.before.before.before.before.before.before.before.before.before.before.before.before.args.utc ≡ true = sym (rw (same64 c.before.before.before.before.before.before.before.before.before.before.before.before.before.before.before.before.before.before.before.before.before.before.ranges.utc) at c.before.before.before.before.before.before.is-minute.ensures) ∙ not-false _ c.before.before.before.before.before.if2.false in
-    let k = front_length c.before.before.before.before.before.before.before.before.before.before.before.before.before.before.before.before.before.before.before.before.before.before.args.row.now c.before.before.before.before.before.before.before.before.before.before.analysis.given.0.1.0 c.before.before.before.before.before.before.before.before.before.before.analysis.given.0.1.1.1.0 (c.before.before.before.if3.false ∙ c.before.before.before.before.row_length_lem.ensures) in (
-      record { in_starts = omega (arith, k, inputs_limited d, c.before.before.before.before.before.before.before.before.before.before.before.before.before.before.before.before.before.before.before.before.before.before.requires.in_starts, c.before.before.before.before.before.before.before.before.before.before.before.before.before.before.before.before.analyse.auto.1.0); in_ends = omega (arith, k, inputs_limited d, c.before.before.before.before.before.before.before.before.before.before.before.before.before.before.before.before.before.before.before.before.before.before.requires.in_ends, c.before.before.before.before.before.before.before.before.before.before.before.before.before.before.before.before.analyse.auto.1.1.0) },
-      table_small _ (sym c.before.before.before.before.before.before.before.before.is-table.ensures ∙ not-false _ c.before.before.before.before.before.before.before.if1.false),
-      rw (same64 c.before.before.before.before.before.before.before.before.before.before.before.before.before.before.before.before.before.before.before.before.before.before.ranges.utc) (minute_fits c.before.before.before.before.before.before.before.before.before.before.before.before.before.before.before.before.before.before.before.before.before.before.args.utc m),
+    let d = analysed_text c.analyse-analysis.ensures c.in-Accepted.is in
+    let m : is_minute c.args.utc ≡ true = sym (rw (same64 c.ranges.utc) at c.is_minute.ensures) ∙ not-false _ c.if-not-is_minute.false-raw in
+    let k = front_length c.args.row.now c.in-Accepted.inputs c.in-Accepted.timers (c.if-row-row_length.false ∙ c.row_length.ensures) in (
+      record { in_starts = omega (arith, k, inputs_limited d, c.requires.in_starts, c.analyse-analysis.auto.starts); in_ends = omega (arith, k, inputs_limited d, c.requires.in_ends, c.analyse-analysis.auto.ends) },
+      table_small _ (sym c.is_table.ensures ∙ not-false _ c.if-not-is_table.false-raw),
+      rw (same64 c.ranges.utc) (minute_fits c.args.utc m),
     )
 
-returns-4 : tie.Need-returns-4
+returns-4 : tie.Need-returns-else-row-row_length
 returns-4 c =
-    let d = analysed_text c.before.before.before.before.before.before.before.before.before.before.before.before.before.before.before.before.before.before.analyse.ensures c.before.before.before.before.before.before.before.before.before.before.before.before.analysis.given.1 in
-    let m : is_minute c.before.before.before.before.before.before.before.before.before.before.before.before.before.before.before.before.before.before.before.before.before.before.before.before.args.utc ≡ true = sym (rw (same64 c.before.before.before.before.before.before.before.before.before.before.before.before.before.before.before.before.before.before.before.before.before.before.before.before.ranges.utc) at c.before.before.before.before.before.before.before.before.is-minute.ensures) ∙ not-false _ c.before.before.before.before.before.before.before.if2.false in
-    (all_filled _ _ _ _ d (sym c.before.before.before.before.before.before.before.before.before.before.is-table.ensures ∙ not-false _ c.before.before.before.before.before.before.before.before.before.if1.false) m _ (c.before.before.before.before.before.if3.false ∙ c.before.before.before.before.before.before.row_length_lem.ensures) (rw (same64 c.before.before.before.before.before.before.before.before.before.before.before.before.before.before.before.before.before.before.before.before.before.before.before.before.ranges.utc) at c.before.fill-row.ensures), tt)
+    let d = analysed_text c.analyse-analysis.ensures c.in-Accepted.is in
+    let m : is_minute c.args.utc ≡ true = sym (rw (same64 c.ranges.utc) at c.is_minute.ensures) ∙ not-false _ c.if-not-is_minute.false-raw in
+    (all_filled _ _ _ _ d (sym c.is_table.ensures ∙ not-false _ c.if-not-is_table.false-raw) m _ (c.if-row-row_length.false ∙ c.row_length.ensures) (rw (same64 c.ranges.utc) at c.fill_row.ensures), tt)
 
-returns-5 : tie.Need-returns-5
-returns-5 c = text_refused _ _ _ _ _ _ (analysed_refused c.before.before.before.before.before.before.before.analyse.ensures c.before.analysis2.given.1)
+returns-5 : tie.Need-returns-in-Refused
+returns-5 c = text_refused _ _ _ _ _ _ (analysed_refused c.analyse-analysis.ensures c.in-Refused.is)
 
 pub fill_in_spec : {M : Type 1} → statement M
 fill_in_spec =

@@ -8,19 +8,19 @@ use Rattle.arith.proofs.Laws.{same32}
 use Rattle.clock.proofs.fill_named.Statement.{statement}
 use Rattle.clock.proofs.fill_named.Tie as tie
 
-mul-value : tie.Need-overflow-mul-value
+mul-value : tie.Need-offset_bounds-row-id
 mul-value c =
-    let h = id_counted _ _ _ _ _ _ (sym c.before.before.before.find.ensures ∙ ap found_id c.before.found.given.1) in
-    omega (arith, h, c.before.before.before.before.before.before.before.before.well_formed.1.0.1, c.before.before.before.before.before.before.before.before.requires.in_starts)
+    let h = id_counted _ _ _ _ _ _ (sym c.find-found.ensures ∙ ap found_id c.in-At.is) in
+    omega (arith, h, c.well_formed.1.0.1, c.requires.in_starts)
 
-slice-set-from-value : tie.Need-slice-set-from-value
-slice-set-from-value c = id_counted _ _ _ _ _ _ (sym c.before.before.before.find.ensures ∙ ap found_id c.before.found.given.1)
+slice-set-from-value : tie.Need-bounds-row-id
+slice-set-from-value c = id_counted _ _ _ _ _ _ (sym c.find-found.ensures ∙ ap found_id c.in-At.is)
 
-returns : tie.Need-returns
-returns c = rw (sym c.before.before.before.find.ensures ∙ ap found_id c.before.found.given.1, same32 c.before.before.before.before.before.before.before.before.ranges.value)
+returns : tie.Need-returns-in-At
+returns c = rw (sym c.find-found.ensures ∙ ap found_id c.in-At.is, same32 c.ranges.value)
 
-returns-2 : tie.Need-returns-2
-returns-2 c = rw (sym c.before.before.find.ensures ∙ ap found_id c.enum_told.given.1)
+returns-2 : tie.Need-returns-in-Nothing
+returns-2 c = rw (sym c.find-found.ensures ∙ ap found_id c.in-Nothing.is)
 
 pub fill_named_spec : {M : Type 1} → statement M
 fill_named_spec =

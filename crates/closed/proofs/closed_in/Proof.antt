@@ -31,7 +31,7 @@ high_room c = omega (arith, (shaped c.before.before).few, c.requires.1.highs, c.
 work_room : (c : tie.Else-m) → c.in-Shape.m.names ≤ length c.args.work.now
 work_room c = omega (arith, (shaped c.before.before).few, c.requires.1.works)
 
-state_room : (c : tie.Else-m) → c.in-Shape.m.names ≤ length c.args.at-state.now
+state_room : (c : tie.Else-m) → c.in-Shape.m.names ≤ length c.args.at_state.now
 state_room c = omega (arith, (shaped c.before.before).few, c.requires.0.0)
 
 row_room : (c : tie.Else-m) → c.in-Shape.m.inputs ≤ length c.args.at_row.now
@@ -85,7 +85,7 @@ closed-ranges-requires c κs =
     let l = length-take-le c.in-Shape.m.names c.shape-shaped.new.low (low_room c.before.before.before.before.before.before.before) in (
       omega (arith, l, s.among),
       (
-        parts_walking c.shape-shaped.new.low c.shape-shaped.new.high c.args.at-state.now c.args.at_row.now c.args.work.now c.args.vals.now c.in-Shape.m.names c.in-Shape.m.inputs (low_room c.before.before.before.before.before.before.before) (high_room c.before.before.before.before.before.before.before) (state_room c.before.before.before.before.before.before.before) (work_room c.before.before.before.before.before.before.before) s.among (row_room c.before.before.before.before.before.before.before) c.requires.1.stack,
+        parts_walking c.shape-shaped.new.low c.shape-shaped.new.high c.args.at_state.now c.args.at_row.now c.args.work.now c.args.vals.now c.in-Shape.m.names c.in-Shape.m.inputs (low_room c.before.before.before.before.before.before.before) (high_room c.before.before.before.before.before.before.before) (state_room c.before.before.before.before.before.before.before) (work_room c.before.before.before.before.before.before.before) s.among (row_room c.before.before.before.before.before.before.before) c.requires.1.stack,
         (omega (arith, l, s.few, c.requires.1.state_room), omega (arith, s.few, s.among, c.requires.1.row_room)),
       ),
     )

@@ -116,7 +116,7 @@ states-again c =
 
 -- what the loops leave, by either way out
 left : (c : tie.Left-states invariant_loop decreases_loop invariant-states decreases-states)
-    → Walking c.args.low.now c.args.high.now c.args.row_low.now c.args.row-high.now c.states.state c.states-test.row c.states-test.work c.states-test.vals
+    → Walking c.args.low.now c.args.high.now c.args.row_low.now c.args.row_high.now c.states.state c.states-test.row c.states-test.work c.states-test.vals
 left c =
     ⊎_elim
     (λ w. walking_kept refl (ap length w.1) (ap length w.2) (ap length w.3) c.states.invariant.memory)

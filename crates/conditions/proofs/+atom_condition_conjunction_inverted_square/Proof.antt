@@ -10,6 +10,6 @@ mod Conjunction
 mod Inverted
 mod Square
 
-pub +atom-condition-conjunction-inverted-square-spec : {M : Type 1} → statement M
-+atom-condition-conjunction-inverted-square-spec =
+pub +atom_condition_conjunction_inverted_square_spec : {M : Type 1} → statement M
++atom_condition_conjunction_inverted_square_spec =
     close μ-atom μ-condition μ-conjunction μ-inverted μ-square (λ t. Atom.met t) (λ t. Condition.met t) (λ t. Conjunction.met t) (λ t. Inverted.met t) (λ t. Square.met t)

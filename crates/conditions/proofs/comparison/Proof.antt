@@ -9,52 +9,34 @@ use Rattle.conditions.proofs.Ways.{comparison_refuses, comparison_none, second_r
 use Rattle.conditions.proofs.comparison.Statement.{statement}
 use Rattle.conditions.proofs.comparison.Tie as tie
 
-returns : tie.Need-returns
-returns c = passed c.before.before.before.before.expression.ensures c.enum_told.given.1 (comparison_refuses _ _ _)
+returns : tie.Need-returns-in_default
+returns c = passed c.expression-first.ensures c.in_default.is (comparison_refuses _ _ _)
 
-returns-2 : tie.Need-returns-2
+returns-2 : tie.Need-returns-then-code-eq0
 returns-2 c =
-    refuses (refused_now (comparison_none _ _ _ (accepted_by c.before.before.before.before.before.before.before.expression.ensures c.before.before.before.first.given.1) c.before.comparison_code_lem.ensures c.if1.true))
+    refuses (refused_now (comparison_none _ _ _ (accepted_by c.expression-first.ensures c.in-Done.is) c.comparison_code-code.ensures c.if-code-eq0.true))
 
-expression-requires-2 : tie.Need-expression-requires-2
+expression-requires-2 : tie.Need-expression-second-requires
 expression-requires-2 c κs =
-    let at_first = c.before.before.before.before in
-    let at-expression = at_first.before.before.before.before in
-    let start = at-expression.before.before.before.before.before.before in
-    let a = accepted_by at-expression.expression.ensures at_first.first.given.1 in
-    (start.requires.0, room_next (room_after start.requires.1 (expression_grows start.requires.0 _ start.requires.1) a) a.stands)
+    let a = accepted_by c.expression-first.ensures c.in-Done.is in
+    (c.requires.0, room_next (room_after c.requires.1 (expression_grows c.requires.0 _ c.requires.1) a) a.stands)
 
-returns-3 : tie.Need-returns-3
+returns-3 : tie.Need-returns-in_default-second
 returns-3 c =
-    let at-expression2 = c.before.before.before.before in
-    let at-if1 = at-expression2.before.before in
-    let at-comparison-code = at-if1.before in
-    let at_first = at-comparison-code.before.before in
-    passed at-expression2.expression2.ensures c.enum-told2.given.1 (second_refuses _ _ _ (accepted_by at_first.before.before.before.before.expression.ensures at_first.first.given.1) at-comparison-code.comparison_code_lem.ensures at-if1.if1.false)
+    passed c.expression-second.ensures c.in_default-second.is (second_refuses _ _ _ (accepted_by c.expression-first.ensures c.in-Done.is) c.comparison_code-code.ensures c.if-code-eq0.false)
 
-put-byte-requires : tie.Need-put-byte-requires
+put-byte-requires : tie.Need-put_byte-requires
 put-byte-requires c κs =
-    let at-expression2 = c.before.before.before.before.before.before in
-    let at-if1 = at-expression2.before.before in
-    let at-comparison-code = at-if1.before in
-    let at_first = at-comparison-code.before.before in
-    let at-expression = at_first.before.before.before.before in
-    let start = at-expression.before.before.before.before.before.before in
-    let a = accepted_by at-expression.expression.ensures at_first.first.given.1 in
-    let b = accepted_by at-expression2.expression2.ensures c.before.before.second.given.1 in
-    let r = room_after start.requires.1 (expression_grows start.requires.0 _ start.requires.1) a in
-    let s = second_room _ _ _ a at-comparison-code.comparison_code_lem.ensures at-if1.if1.false b r (expression_grows start.requires.0 _ (room_next r a.stands)) in
+    let a = accepted_by c.expression-first.ensures c.in-Done.is in
+    let b = accepted_by c.expression-second.ensures c.in-Done-second.is in
+    let r = room_after c.requires.1 (expression_grows c.requires.0 _ c.requires.1) a in
+    let s = second_room _ _ _ a c.comparison_code-code.ensures c.if-code-eq0.false b r (expression_grows c.requires.0 _ (room_next r a.stands)) in
     omega (arith, s.short, s.within, s.room)
 
-returns-4 : tie.Need-returns-4
+returns-4 : tie.Need-returns
 returns-4 c =
-    let at_second = c.before.before.before.before.before in
-    let at-expression2 = at_second.before.before.before.before in
-    let at-if1 = at-expression2.before.before in
-    let at-comparison-code = at-if1.before in
-    let at_first = at-comparison-code.before.before in
-    let b = accepted_by at-expression2.expression2.ensures at_second.second.given.1 in
-    accepts_up_to refl (comparison_accepts _ _ _ (accepted_by at_first.before.before.before.before.expression.ensures at_first.first.given.1) at-comparison-code.comparison_code_lem.ensures at-if1.if1.false b c.before.before.put_byte.ensures.0 c.before.before.put_byte.ensures.1)
+    let b = accepted_by c.expression-second.ensures c.in-Done-second.is in
+    accepts_up_to refl (comparison_accepts _ _ _ (accepted_by c.expression-first.ensures c.in-Done.is) c.comparison_code-code.ensures c.if-code-eq0.false b c.put_byte.ensures.0 c.put_byte.ensures.1)
 
 pub comparison_spec : {M : Type 1} → statement M
 comparison_spec =

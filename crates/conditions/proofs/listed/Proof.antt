@@ -8,7 +8,7 @@ use Rattle.conditions.proofs.listed.Tie as tie
 
 returns : tie.Need-returns
 unfolding kind_number
-returns c = same_part (listed_is _ _) (answers c.closed.ensures (closed_parses close_square _ c.before.before.before.whole-condition.ensures))
+returns c = same_part (listed_is _ _) (answers c.closed.ensures (closed_parses close_square _ c.whole_condition-inner.ensures))
 
 pub listed_spec : {M : Type 1} → statement M
 listed_spec = tie.close (tie.spec (λ c κs. search rules) (λ c κs. search rules) (λ c. search rules) returns)

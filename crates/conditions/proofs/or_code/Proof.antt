@@ -5,13 +5,13 @@ use Rattle.grammar.specs.Conditions.{or_of}
 use Rattle.conditions.proofs.or_code.Statement.{statement}
 use Rattle.conditions.proofs.or_code.Tie as tie
 
-returns : tie.Need-returns
+returns : tie.Need-returns-then-kind-eq-BAR
 unfolding or_of is kind_number
-returns c = λ k e. rw (← e, c.if1.true)
+returns c = λ k e. rw (← e, c.if-kind-eq-BAR.true)
 
-returns-2 : tie.Need-returns-2
+returns-2 : tie.Need-returns
 unfolding or_of is kind_number
-returns-2 c = λ k e. rw (← e, ne_eqb _ _ c.if1.false)
+returns-2 c = λ k e. rw (← e, ne_eqb _ _ c.if-kind-eq-BAR.false)
 
 pub or_code_spec : {M : Type 1} → statement M
 or_code_spec = tie.close (tie.spec returns returns-2)

@@ -6,7 +6,7 @@ use Rattle.conditions.proofs.whole_condition.Tie as tie
 
 returns : tie.Need-returns
 unfolding whole_condition
-returns c = c.before.before.condition.ensures
+returns c = c.condition.ensures
 
 pub whole_condition_spec : {M : Type 1} → statement M
 whole_condition_spec = tie.close (tie.spec (λ c κs. search rules) (λ c. search rules) returns)

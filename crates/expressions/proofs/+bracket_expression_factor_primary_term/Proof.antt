@@ -10,6 +10,6 @@ mod Factor
 mod Primary
 mod Term
 
-pub +bracket-expression-factor-primary-term-spec : {M : Type 1} → statement M
-+bracket-expression-factor-primary-term-spec =
+pub +bracket_expression_factor_primary_term_spec : {M : Type 1} → statement M
++bracket_expression_factor_primary_term_spec =
     close μ-bracket μ-expression μ-factor μ-primary μ-term (λ t. Bracket.met t) (λ t. Expression.met t) (λ t. Factor.met t) (λ t. Primary.met t) (λ t. Term.met t)

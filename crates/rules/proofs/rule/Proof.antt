@@ -10,36 +10,36 @@ use Rattle.rules.proofs.Ways.{rule_long, rule_unknown, rule_timer, rule_second, 
 use Rattle.rules.proofs.rule.Statement.{statement}
 use Rattle.rules.proofs.rule.Tie as tie
 
-returns : tie.Need-returns
-returns c = λ ts from. refuses refl (rule_long ts _ _ _ (sym c.before.is-over-long.ensures ∙ c.if1.true))
+returns : tie.Need-returns-then-is_over_long
+returns c = λ ts from. refuses refl (rule_long ts _ _ _ (sym c.is_over_long.ensures ∙ c.if-is_over_long.true))
 
-returns-2 : tie.Need-returns-2
-returns-2 c = λ ts from. refuses refl (rule_unknown ts _ _ _ (sym c.before.before.before.before.before.is-over-long.ensures ∙ c.before.before.before.before.if1.false) (sym (c.before.before.find.ensures ∙ ap (id_of _) c.before.before.before.name.ensures) ∙ ap found_id c.enum_told.given.1))
+returns-2 : tie.Need-returns-in_default
+returns-2 c = λ ts from. refuses refl (rule_unknown ts _ _ _ (sym c.is_over_long.ensures ∙ c.if-is_over_long.false) (sym (c.find-found.ensures ∙ ap (id_of _) c.name.ensures) ∙ ap found_id c.in_default.is))
 
-returns-3 : tie.Need-returns-3
+returns-3 : tie.Need-returns-then-first-id
 returns-3 c =
-    let e = sym (c.before.before.before.before.find.ensures ∙ ap (id_of _) c.before.before.before.before.before.name.ensures) ∙ ap found_id c.before.before.found.given.1 in
-    λ ts from. refuses refl (rule_timer ts _ _ _ (sym c.before.before.before.before.before.before.before.is-over-long.ensures ∙ c.before.before.before.before.before.before.if1.false) e (from _ (id_below _ c.before.before.before.before.before.before.before.before.before.before.before.before.before.before.requires.0 _ e) ∙ le-leb _ _ c.if2.true))
+    let e = sym (c.find-found.ensures ∙ ap (id_of _) c.name.ensures) ∙ ap found_id c.in-At.is in
+    λ ts from. refuses refl (rule_timer ts _ _ _ (sym c.is_over_long.ensures ∙ c.if-is_over_long.false) e (from _ (id_below _ c.requires.0 _ e) ∙ le-leb _ _ c.if-first-id.true))
 
-is-known-requires : tie.Need-is-known-requires
+is-known-requires : tie.Need-is_known-requires
 is-known-requires c κs =
-    let e = sym (c.before.before.before.before.find.ensures ∙ ap (id_of _) c.before.before.before.before.before.name.ensures) ∙ ap found_id c.before.before.found.given.1 in
-    (id_below _ c.before.before.before.before.before.before.before.before.before.before.before.before.before.before.requires.0 _ e, c.before.before.before.before.before.before.before.before.before.before.before.before.before.before.requires.0.few)
+    let e = sym (c.find-found.ensures ∙ ap (id_of _) c.name.ensures) ∙ ap found_id c.in-At.is in
+    (id_below _ c.requires.0 _ e, c.requires.0.few)
 
-returns-4 : tie.Need-returns-4
+returns-4 : tie.Need-returns-then-is_known
 returns-4 c =
-    let e = sym (c.before.before.before.before.before.before.find.ensures ∙ ap (id_of _) c.before.before.before.before.before.before.before.name.ensures) ∙ ap found_id c.before.before.before.before.found.given.1 in
-    λ ts from. refuses refl (rule_second ts _ _ _ (sym c.before.before.before.before.before.before.before.before.before.is-over-long.ensures ∙ c.before.before.before.before.before.before.before.before.if1.false) e (from _ (id_below _ c.before.before.before.before.before.before.before.before.before.before.before.before.before.before.before.before.requires.0 _ e) ∙ lt-leb _ _ c.before.before.if2.false) (sym c.before.is_known.ensures ∙ c.if3.true))
+    let e = sym (c.find-found.ensures ∙ ap (id_of _) c.name.ensures) ∙ ap found_id c.in-At.is in
+    λ ts from. refuses refl (rule_second ts _ _ _ (sym c.is_over_long.ensures ∙ c.if-is_over_long.false) e (from _ (id_below _ c.requires.0 _ e) ∙ lt-leb _ _ c.if-first-id.false) (sym c.is_known.ensures ∙ c.if-is_known.true))
 
 formulas-requires : tie.Need-formulas-requires
 formulas-requires c κs =
-    let e = sym (c.before.before.before.before.before.before.before.before.before.find.ensures ∙ ap (id_of _) c.before.before.before.before.before.before.before.before.before.before.name.ensures) ∙ ap found_id c.before.before.before.before.before.before.before.found.given.1 in
-    (c.before.before.before.before.before.before.before.before.before.before.before.before.before.before.before.before.before.before.before.requires.0, (c.before.before.before.before.before.before.before.before.before.before.before.before.before.before.before.before.before.before.before.requires.1.0, (id_few _ c.before.before.before.before.before.before.before.before.before.before.before.before.before.before.before.before.before.before.before.requires.0 _ e, c.before.before.before.before.before.before.before.before.before.before.before.before.before.before.before.before.before.before.before.requires.1.1)))
+    let e = sym (c.find-found.ensures ∙ ap (id_of _) c.name.ensures) ∙ ap found_id c.in-At.is in
+    (c.requires.0, (c.requires.1.0, (id_few _ c.requires.0 _ e, c.requires.1.1)))
 
-returns-5 : tie.Need-returns-5
+returns-5 : tie.Need-returns
 returns-5 c =
-    let e = sym (c.before.before.before.before.before.before.before.before.before.before.before.before.before.before.before.before.find.ensures ∙ ap (id_of _) c.before.before.before.before.before.before.before.before.before.before.before.before.before.before.before.before.before.name.ensures) ∙ ap found_id c.before.before.before.before.before.before.before.before.before.before.before.before.before.before.found.given.1 in
-    λ ts from. reads_as (rule_formulas ts _ _ _ (sym c.before.before.before.before.before.before.before.before.before.before.before.before.before.before.before.before.before.before.before.is-over-long.ensures ∙ c.before.before.before.before.before.before.before.before.before.before.before.before.before.before.before.before.before.before.if1.false) e (from _ (id_below _ c.before.before.before.before.before.before.before.before.before.before.before.before.before.before.before.before.before.before.before.before.before.before.before.before.before.before.requires.0 _ e) ∙ lt-leb _ _ c.before.before.before.before.before.before.before.before.before.before.before.before.if2.false) (sym c.before.before.before.before.before.before.before.before.before.before.before.is_known.ensures ∙ c.before.before.before.before.before.before.before.before.before.before.if3.false)) c.before.before.before.before.before.before.formulas.ensures
+    let e = sym (c.find-found.ensures ∙ ap (id_of _) c.name.ensures) ∙ ap found_id c.in-At.is in
+    λ ts from. reads_as (rule_formulas ts _ _ _ (sym c.is_over_long.ensures ∙ c.if-is_over_long.false) e (from _ (id_below _ c.requires.0 _ e) ∙ lt-leb _ _ c.if-first-id.false) (sym c.is_known.ensures ∙ c.if-is_known.false)) c.formulas.ensures
 
 pub rule_spec : {M : Type 1} → statement M
 rule_spec =

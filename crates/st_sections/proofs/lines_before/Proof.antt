@@ -17,33 +17,33 @@ use Rattle.st_sections.proofs.Lines.{lines_begun, lines_more}
 use Rattle.st_sections.proofs.lines_before.Statement.{statement}
 use Rattle.st_sections.proofs.lines_before.Tie as tie
 
-abbrev invariant_loop : tie.invariant_loop
+abbrev invariant_loop : tie.invariant-loop-i
 invariant_loop text starts ends values inputs count previous out₀ to i₀ place₀ out i place =
     (i ≤ inputs) × Fronts (lines_printed (map (line_for previous) (drop i (take inputs (declarations_of (table_names text starts ends count) values))))) out₀ out to place
 
-abbrev decreases_loop : tie.decreases_loop
+abbrev decreases_loop : tie.decreases-loop-i
 decreases_loop text starts ends values inputs count previous out₀ to i₀ place₀ out i place = i
 
-loop-holds : tie.Need-loop-init invariant_loop decreases_loop
+loop-holds : tie.Need-loop-i-init invariant_loop decreases_loop
 loop-holds c =
-    let n = names_counted c.before.before.before.before.args.text.now _ _ _ c.before.before.before.before.requires.0 in
-    (omega arith, lines_begun (table_names c.before.before.before.before.args.text.now c.before.before.before.before.args.starts.now c.before.before.before.before.args.ends.now c.before.before.before.before.args.count) c.before.before.before.before.args.values.now c.before.before.before.before.args.inputs (omega (arith, n, c.before.before.before.before.requires.1.0)) (omega (arith, n, c.before.before.before.before.requires.1.1)) c.before.before.before.before.args.previous)
+    let n = names_counted c.args.text.now _ _ _ c.requires.0 in
+    (omega arith, lines_begun (table_names c.args.text.now c.args.starts.now c.args.ends.now c.args.count) c.args.values.now c.args.inputs (omega (arith, n, c.requires.1.0)) (omega (arith, n, c.requires.1.1)) c.args.previous)
 
-line-before-requires : tie.Need-line-before-requires invariant_loop decreases_loop
-line-before-requires c κs = c.before.before.before.before.before.before.before.before.requires.0
+line-before-requires : tie.Need-line_before-place-requires invariant_loop decreases_loop
+line-before-requires c κs = c.requires.0
 
-loop-again : tie.Need-loop-preserved invariant_loop decreases_loop
+loop-again : tie.Need-loop-i-preserved invariant_loop decreases_loop
 loop-again c =
-    let n = names_counted c.before.before.before.before.before.before.before.before.before.before.before.args.text.now _ _ _ c.before.before.before.before.before.before.before.before.before.before.before.requires.0 in
-    let l = c.before.before.before.before.before.before.loop.invariant in
-    let f : SFits w32 (get_or c.before.before.before.before.before.before.before.before.before.before.before.args.values.now (c.before.before.before.before.before.before.loop.i - 1) (pos 0)) = search rules in
-    (omega (arith, l.0), lines_more (table_names c.before.before.before.before.before.before.before.before.before.before.before.args.text.now c.before.before.before.before.before.before.before.before.before.before.before.args.starts.now c.before.before.before.before.before.before.before.before.before.before.before.args.ends.now c.before.before.before.before.before.before.before.before.before.before.before.args.count) c.before.before.before.before.before.before.before.before.before.before.before.args.values.now c.before.before.before.before.before.before.before.before.before.before.before.args.inputs (omega (arith, n, c.before.before.before.before.before.before.before.before.before.before.before.requires.1.0)) (omega (arith, n, c.before.before.before.before.before.before.before.before.before.before.before.requires.1.1)) c.before.before.before.before.before.before.before.before.before.before.before.args.previous c.before.before.before.before.before.before.loop.i c.before.before.before.before.before.loop-test.true l.0 l.1 (rw (same32 f) at c.before.before.line_Before.ensures))
+    let n = names_counted c.args.text.now _ _ _ c.requires.0 in
+    let l = c.loop-i.invariant in
+    let f : SFits w32 (get_or c.args.values.now (c.loop-i.i - 1) (pos 0)) = search rules in
+    (omega (arith, l.0), lines_more (table_names c.args.text.now c.args.starts.now c.args.ends.now c.args.count) c.args.values.now c.args.inputs (omega (arith, n, c.requires.1.0)) (omega (arith, n, c.requires.1.1)) c.args.previous c.loop-i.i c.loop-i-test.true l.0 l.1 (rw (same32 f) at c.line_before-place.ensures))
 
-same_length : tie.Need-same-length invariant_loop decreases_loop
-same_length c = c.before.loop.invariant.1.same
+same_length : tie.Need-shape_of-out invariant_loop decreases_loop
+same_length c = c.loop-i.invariant.1.same
 
 returns : tie.Need-returns invariant_loop decreases_loop
-returns c = let z : c.before.loop.i ≡ 0 = omega (arith, c.loop-test.false) in rw z at c.before.loop.invariant.1
+returns c = let z : c.loop-i.i ≡ 0 = omega (arith, c.loop-i-test.false) in rw z at c.loop-i.invariant.1
 
 pub lines_before_spec : {M : Type 1} → statement M
 lines_before_spec =

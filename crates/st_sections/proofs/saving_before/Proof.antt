@@ -7,10 +7,10 @@ use Rattle.st_sections.proofs.saving_before.Tie as tie
 
 returns : tie.Need-returns
 unfolding statement_printed expression_printed
-returns c = fronts_then (fronts_then (fronts_then (fronts_then c.before.before.before.before.before.before.before.before.before.before.before.before.before.before.before.before.before.before.before.bytes-before.ensures c.before.before.before.before.before.before.before.before.before.before.before.before.before.before.before.name-before.ensures) c.before.before.before.before.before.before.before.before.before.before.bytes-before2.ensures) c.before.before.before.before.before.before.name-before2.ensures) c.before.before.byte-before.ensures
+returns c = fronts_then (fronts_then (fronts_then (fronts_then c.bytes_before-end.ensures c.name_before-value.ensures) c.bytes_before-sign.ensures) c.name_before-target.ensures) c.byte_before.ensures
 
 pub saving_before_spec : {M : Type 1} → statement M
 saving_before_spec =
     tie.close
-    (tie.spec (λ c. search rules) (λ c κs. search rules) (λ c κs. search rules) (λ c. search rules) (λ c κs. search rules) (λ c κs. search rules) (λ c κs. search rules)
+    (tie.spec (λ c. search rules) (λ c κs. search rules) (λ c κs. search rules) (λ c. search rules) (λ c κs. search rules)
     (λ c. search rules) returns)

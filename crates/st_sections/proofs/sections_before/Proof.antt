@@ -5,7 +5,7 @@ use Rattle.st_sections.proofs.sections_before.Statement.{statement}
 use Rattle.st_sections.proofs.sections_before.Tie as tie
 
 returns : tie.Need-returns
-returns c = fronts_then c.before.before.before.before.before.before.variables-before.ensures c.before.before.inputs_before.ensures
+returns c = fronts_then c.variables_before-variables.ensures c.inputs_before.ensures
 
 pub sections_before_spec : {M : Type 1} → statement M
 sections_before_spec = tie.close (tie.spec (λ c κs. search rules) (λ c κs. search rules) (λ c. search rules) returns)

@@ -9,25 +9,25 @@ use Rattle.trace_text.proofs.SignedDecimals.{read, printed, mirrored, fits, read
 use Rattle.st_sections.proofs.signed_before.Statement.{statement}
 use Rattle.st_sections.proofs.signed_before.Tie as tie
 
-cast-decimal-before : tie.Need-overflow-cast-decimal-before
-cast-decimal-before c = rw (read c.before.before.before.args.z c.before.before.before.ranges.z c.before.if1.true) (tt, omega (arith, c.before.before.before.ranges.z.sfits))
+cast-decimal-before : tie.Need-overflow_cast-z
+cast-decimal-before c = rw (read c.args.z c.ranges.z c.if-z-ge0.true) (tt, omega (arith, c.ranges.z.sfits))
 
-returns : tie.Need-returns
-returns c = as_front (λ l. ap (λ (k : List ℕ). k ++ l) (printed c.before.before.before.before.before.before.args.z c.before.before.before.before.before.before.ranges.z c.before.before.before.before.if1.true)) (rw (read c.before.before.before.before.before.before.args.z c.before.before.before.before.before.before.ranges.z c.before.before.before.before.if1.true) at c.before.before.decimal-before.ensures)
+returns : tie.Need-returns-then-z-ge0
+returns c = as_front (λ l. ap (λ (k : List ℕ). k ++ l) (printed c.args.z c.ranges.z c.if-z-ge0.true)) (rw (read c.args.z c.ranges.z c.if-z-ge0.true) at c.decimal_before.ensures)
 
-sub-n : tie.Need-overflow-sub-n
-sub-n c = rw (mirrored c.before.before.args.z c.before.before.ranges.z c.if1.false) (fits c.before.before.args.z c.before.before.ranges.z c.if1.false)
+sub-n : tie.Need-overflow_sub-n
+sub-n c = rw (mirrored c.args.z c.ranges.z c.if-z-ge0.false) (fits c.args.z c.ranges.z c.if-z-ge0.false)
 
-cast-decimal-before-2 : tie.Need-overflow-cast-decimal-before-2
-cast-decimal-before-2 c = rw (read_2 c.before.before.before.args.z c.before.before.before.ranges.z c.before.if1.false) (tt, omega (arith, c.before.before.before.ranges.z.sfits))
+cast-decimal-before-2 : tie.Need-overflow_cast-n
+cast-decimal-before-2 c = rw (read_2 c.args.z c.ranges.z c.if-z-ge0.false) (tt, omega (arith, c.ranges.z.sfits))
 
-add-decimal-before : tie.Need-overflow-add-decimal-before
-add-decimal-before c = rw (read_2 c.before.before.before.args.z c.before.before.before.ranges.z c.before.if1.false) (omega (arith, c.before.before.before.ranges.z.sfits))
+add-decimal-before : tie.Need-overflow_add-n
+add-decimal-before c = rw (read_2 c.args.z c.ranges.z c.if-z-ge0.false) (omega (arith, c.ranges.z.sfits))
 
-returns-2 : tie.Need-returns-2
+returns-2 : tie.Need-returns
 returns-2 c =
-    as_front (λ l. ap (λ (k : List ℕ). k ++ l) (printed_2 c.before.before.before.before.before.before.before.before.before.before.args.z c.before.before.before.before.before.before.before.before.before.before.ranges.z c.before.before.before.before.before.before.before.before.if1.false))
-    (fronts_then (rw (read_2 c.before.before.before.before.before.before.before.before.before.before.args.z c.before.before.before.before.before.before.before.before.before.before.ranges.z c.before.before.before.before.before.before.before.before.if1.false) at c.before.before.before.before.before.before.decimal-before2.ensures) c.before.before.byte-before.ensures)
+    as_front (λ l. ap (λ (k : List ℕ). k ++ l) (printed_2 c.args.z c.ranges.z c.if-z-ge0.false))
+    (fronts_then (rw (read_2 c.args.z c.ranges.z c.if-z-ge0.false) at c.decimal_before-digits.ensures) c.byte_before.ensures)
 
 pub signed_before_spec : {M : Type 1} → statement M
 signed_before_spec =

@@ -8,20 +8,20 @@ use Rattle.translate.proofs.Stores.{Storing, storing_goes, storing_ends}
 use Rattle.translate.proofs.store.Statement.{statement}
 use Rattle.translate.proofs.store.Tie as tie
 
-abbrev invariant_loop : tie.invariant_loop
+abbrev invariant_loop : tie.invariant-loop-i
 invariant_loop to₀ from i₀ to i = Storing 0 to₀ from to i
 
-abbrev decreases_loop : tie.decreases_loop
+abbrev decreases_loop : tie.decreases-loop-i
 decreases_loop to₀ from i₀ to i = length from - i
 
-loop-again : tie.Need-loop-preserved invariant_loop decreases_loop
-loop-again c = storing_goes c.before.before.loop.invariant c.before.loop-test.true c.before.before.before.requires
+loop-again : tie.Need-loop-i-preserved invariant_loop decreases_loop
+loop-again c = storing_goes c.loop-i.invariant c.loop-i-test.true c.requires
 
-same_length : tie.Need-same-length invariant_loop decreases_loop
+same_length : tie.Need-shape_of-to invariant_loop decreases_loop
 same_length c = search rules
 
 returns : tie.Need-returns invariant_loop decreases_loop
-returns c = storing_ends c.before.loop.invariant c.loop-test.false
+returns c = storing_ends c.loop-i.invariant c.loop-i-test.false
 
 pub store_spec : {M : Type 1} → statement M
 store_spec =

@@ -17,30 +17,30 @@ use Rattle.translate.proofs.tail.Statement.{statement}
 use Rattle.translate.proofs.tail.Tie as tie
 
 -- the watches, in the scope of all names
-read_free : (c : tie.After-watches) → Writes no_code watches_told watches_behind (looked_ahead c.before.before.before.before.before.args.text.now (watches_from watch_limit (free_scope c.before.before.before.before.before.args.text.now c.before.before.before.before.before.args.starts.now c.before.before.before.before.before.args.ends.now c.before.before.before.before.before.args.count) [] c.before.before.before.before.before.args.behind.at)) 0 [] [] c.watches.result
+read_free : (c : tie.After-watches-read) → Writes no_code watches_told watches_behind (looked_ahead c.args.text.now (watches_from watch_limit (free_scope c.args.text.now c.args.starts.now c.args.ends.now c.args.count) [] c.args.behind.at)) 0 [] [] c.watches-read.result
 read_free c =
-    subst (λ (sc : Scope). Writes no_code watches_told watches_behind (looked_ahead c.before.before.before.before.before.args.text.now (watches_from watch_limit sc [] c.before.before.before.before.before.args.behind.at)) 0 [] [] c.watches.result)
-    (scope_free _ _ _ _ _ c.before.first-names.ensures) c.watches.ensures
+    subst (λ (sc : Scope). Writes no_code watches_told watches_behind (looked_ahead c.args.text.now (watches_from watch_limit sc [] c.args.behind.at)) 0 [] [] c.watches-read.result)
+    (scope_free _ _ _ _ _ c.first_names-free.ensures) c.watches-read.ensures
 
-first-names-requires : tie.Need-first-names-requires
-first-names-requires c κs = c.before.before.before.requires.0.few
+first-names-requires : tie.Need-first_names-free-requires
+first-names-requires c κs = c.requires.0.few
 
-watches-requires : tie.Need-watches-requires
+watches-requires : tie.Need-watches-read-requires
 watches-requires c κs =
-    let e = c.first-names.ensures.0 in
-    (record { table = record { in_starts = omega (arith, e, c.before.before.before.before.requires.0.table.in_starts); in_ends = omega (arith, e, c.before.before.before.before.requires.0.table.in_ends) }; few = omega (arith, e, c.before.before.before.before.requires.0.few) }, (c.before.before.before.before.requires.1.0, c.before.before.before.before.requires.1.1))
+    let e = c.first_names-free.ensures.0 in
+    (record { table = record { in_starts = omega (arith, e, c.requires.0.table.in_starts); in_ends = omega (arith, e, c.requires.0.table.in_ends) }; few = omega (arith, e, c.requires.0.few) }, (c.requires.1.0, c.requires.1.1))
 
-returns : tie.Need-returns
+returns : tie.Need-returns-in_default
 returns c =
-    let e = c.enum_told.given.1 in
-    refuses e (tail_refused _ _ _ (record { looked = refused_part (read_free c.before.before) e }))
+    let e = c.in_default.is in
+    refuses e (tail_refused _ _ _ (record { looked = refused_part (read_free c.before) e }))
 
 finish-requires : tie.Need-finish-requires
-finish-requires c κs = c.before.before.before.before.before.before.before.before.requires.0.few
+finish-requires c κs = c.requires.0.few
 
-returns-2 : tie.Need-returns-2
+returns-2 : tie.Need-returns
 returns-2 c =
-    let b = watches_behind_lem (got (read_free c.before.before.before.before) c.before.before.read.given.1) in
+    let b = watches_behind_lem (got (read_free c.before.before) c.in-Done.is) in
     tail_answered _ _ _ _ _ b.is b.stands b.counted c.finish.ensures
 
 pub tail_spec : {M : Type 1} → statement M

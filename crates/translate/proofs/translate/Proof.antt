@@ -8,4 +8,4 @@ pub translate_spec : {M : Type 1} → statement M
 translate_spec =
     tie.close
     (tie.spec (λ c κs. search rules) (λ c. search rules) (λ c. search rules) (λ c κs. search rules) (λ c. search rules) (λ c. search rules)
-    (λ c κs. search rules) (λ c. search rules) (λ c. search rules) (λ c. long_refused _ _ c.if3.false))
+    (λ c κs. search rules) (λ c. search rules) (λ c. search rules) (λ c. long_refused _ _ c.if-text-le-TEXT_LIMIT.false))

@@ -12,15 +12,15 @@ use Rattle.watch.proofs.reported.Statement.{statement}
 use Rattle.watch.proofs.reported.Tie as tie
 
 number-requires : tie.Need-number-requires
-number-requires c κs = subst FailedWithin c.before.failed.given.1 c.before.before.before.requires
+number-requires c κs = subst FailedWithin c.in-At.is c.requires
 
-returns : tie.Need-returns
+returns : tie.Need-returns-in-At
 returns c =
     let f : SFits w64 c.number.result = search rules in
-    rw (to_z-of_z {w = w64} f) (c.number.ensures ∙ ap (λ (f : Failed). reported (failed_at f)) (sym c.before.before.failed.given.1))
+    rw (to_z-of_z {w = w64} f) (c.number.ensures ∙ ap (λ (f : Failed). reported (failed_at f)) (sym c.in-At.is))
 
-returns-2 : tie.Need-returns-2
-returns-2 c = ap (λ (f : Failed). reported (failed_at f)) (sym c.enum_told.given.1)
+returns-2 : tie.Need-returns-in-Never
+returns-2 c = ap (λ (f : Failed). reported (failed_at f)) (sym c.in-Never.is)
 
 pub reported_spec : {M : Type 1} → statement M
 reported_spec = tie.close (tie.spec (λ c. search rules) number-requires (λ c. search rules) returns returns-2)

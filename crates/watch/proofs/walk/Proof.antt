@@ -9,21 +9,21 @@ use Rattle.watch.proofs.Walks.{walk_alone_of, walk_paired_of}
 use Rattle.watch.proofs.walk.Statement.{statement}
 use Rattle.watch.proofs.walk.Tie as tie
 
-slice-aggregate-walk-alone : tie.Need-slice-aggregate-walk-alone
+slice-aggregate-walk-alone : tie.Need-slice_bounds-walk_alone-end
 slice-aggregate-walk-alone c =
-    let h : c.before.before.before.args.middle ≤ length c.before.before.before.args.code.now = omega (arith, c.before.before.before.requires.0.0, c.before.before.before.requires.0.1) in
+    let h : c.args.middle ≤ length c.args.code.now = omega (arith, c.requires.0.0, c.requires.0.1) in
     sym (length-take-le _ _ h)
 
-returns : tie.Need-returns
-returns c = λ w d. walk_alone_of _ _ _ _ _ c.before.walk-alone.result w.first w.later d.first d.later c.before.before.before.before.if1.true c.before.walk-alone.ensures
+returns : tie.Need-returns-then-middle-end
+returns c = λ w d. walk_alone_of _ _ _ _ _ c.walk_alone.result w.first w.later d.first d.later c.if-middle-end.true c.walk_alone.ensures
 
-slice-aggregate-walk-paired : tie.Need-slice-aggregate-walk-paired
+slice-aggregate-walk-paired : tie.Need-slice_bounds-walk_paired-end
 slice-aggregate-walk-paired c =
-    let h : c.before.before.before.args.middle ≤ length c.before.before.before.args.code.now = omega (arith, c.before.before.before.requires.0.0, c.before.before.before.requires.0.1) in
+    let h : c.args.middle ≤ length c.args.code.now = omega (arith, c.requires.0.0, c.requires.0.1) in
     sym (length-take-le _ _ h)
 
-returns-2 : tie.Need-returns-2
-returns-2 c = λ w d. walk_paired_of _ _ _ _ _ c.before.walk-paired.result w.first w.later d.first d.later d.ordered c.before.before.before.before.before.before.before.requires.0.1 c.before.before.before.before.before.if1.false c.before.walk-paired.ensures
+returns-2 : tie.Need-returns
+returns-2 c = λ w d. walk_paired_of _ _ _ _ _ c.walk_paired.result w.first w.later d.first d.later d.ordered c.requires.0.1 c.if-middle-end.false c.walk_paired.ensures
 
 pub walk_spec : {M : Type 1} → statement M
 walk_spec = tie.close

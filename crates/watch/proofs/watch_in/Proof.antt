@@ -8,29 +8,29 @@ use Rattle.watch.proofs.Service.{few_cells, watch_refused, watch_cut, watch_misf
 use Rattle.watch.proofs.watch_in.Statement.{statement}
 use Rattle.watch.proofs.watch_in.Tie as tie
 
-add-size : tie.Need-overflow-add-size
-add-size c = record { fits = omega (arith, few_cells (analysed_text c.before.before.before.before.before.before.before.analyse.ensures c.before.names.given.1)) }
+add-size : tie.Need-overflow_add-size
+add-size c = record { fits = omega (arith, few_cells (analysed_text c.analyse.ensures c.in-Accepted.is)) }
 
-returns : tie.Need-returns
-returns c = watch_cut _ _ _ (analysed_text c.before.before.before.before.before.before.before.before.before.analyse.ensures c.before.before.before.names.given.1) (sym c.before.is_trace_lem.ensures ∙ not-true _ c.if1.true)
+returns : tie.Need-returns-then-not-is_trace
+returns c = watch_cut _ _ _ (analysed_text c.analyse.ensures c.in-Accepted.is) (sym c.is_trace.ensures ∙ not-true _ c.if-not-is_trace.true-raw)
 
-returns-2 : tie.Need-returns-2
-returns-2 c = watch_misfit _ _ _ (analysed_text c.before.before.before.before.before.before.before.before.before.before.analyse.ensures c.before.before.before.before.names.given.1) (sym c.before.before.is_trace_lem.ensures ∙ not-false _ c.before.if1.false) c.if2.true
+returns-2 : tie.Need-returns-then-report-ne-REPORT_LENGTH
+returns-2 c = watch_misfit _ _ _ (analysed_text c.analyse.ensures c.in-Accepted.is) (sym c.is_trace.ensures ∙ not-false _ c.if-not-is_trace.false-raw) c.if-report-ne-REPORT_LENGTH.true
 
 reports-requires : tie.Need-reports-requires
 reports-requires c κs =
-    let x = analysed_text c.before.before.before.before.before.before.before.before.before.before.before.before.before.before.before.analyse.ensures c.before.before.before.before.before.before.before.before.before.names.given.1 in
-    let e = sym c.before.before.before.before.before.before.before.is_trace_lem.ensures ∙ not-false _ c.before.before.before.before.before.before.if1.false in
-    (watch_counted c.before.before.before.before.before.before.before.before.before.before.before.before.before.before.before.before.before.before.before.before.before.before.args.text.now c.before.before.before.before.before.before.before.before.before.before.before.before.before.before.before.before.before.before.before.before.before.before.args.trace.now c.before.before.before.before.before.before.before.before.before.before.before.before.before.before.before.before.before.before.before.before.before.before.args.report.now x e c.before.before.before.before.before.if2.false, ((omega arith, omega (arith, few_cells x), e), (count_inside c.before.before.before.before.before.before.before.before.before.before.before.before.before.before.before.before.before.before.before.before.before.before.args.text.now c.before.before.before.before.before.before.before.before.before.before.before.before.before.before.before.before.before.before.before.before.before.before.args.trace.now c.before.before.before.before.before.before.before.before.before.before.before.before.before.before.before.before.before.before.before.before.before.before.args.report.now x e c.before.before.before.before.before.if2.false, c.before.before.before.before.before.before.before.before.before.before.before.before.before.before.before.before.before.before.before.before.before.before.requires.1.0, c.before.before.before.before.before.before.before.before.before.before.before.before.before.before.before.before.before.before.before.before.before.before.requires.1.1)))
+    let x = analysed_text c.analyse.ensures c.in-Accepted.is in
+    let e = sym c.is_trace.ensures ∙ not-false _ c.if-not-is_trace.false-raw in
+    (watch_counted c.args.text.now c.args.trace.now c.args.report.now x e c.if-report-ne-REPORT_LENGTH.false, ((omega arith, omega (arith, few_cells x), e), (count_inside c.args.text.now c.args.trace.now c.args.report.now x e c.if-report-ne-REPORT_LENGTH.false, c.requires.1.0, c.requires.1.1)))
 
-returns-3 : tie.Need-returns-3
+returns-3 : tie.Need-returns-else-report-ne-REPORT_LENGTH
 returns-3 c =
-    let x = analysed_text c.before.before.before.before.before.before.before.before.before.before.before.before.before.before.before.before.before.before.before.before.analyse.ensures c.before.before.before.before.before.before.before.before.before.before.before.before.before.before.names.given.1 in
-    let e = sym c.before.before.before.before.before.before.before.before.before.before.before.before.is_trace_lem.ensures ∙ not-false _ c.before.before.before.before.before.before.before.before.before.before.before.if1.false in
-    watch_reported _ _ _ x e c.before.before.before.before.before.before.before.before.before.before.if2.false _ (c.before.before.before.before.reports.ensures _ _ x.stand.read)
+    let x = analysed_text c.analyse.ensures c.in-Accepted.is in
+    let e = sym c.is_trace.ensures ∙ not-false _ c.if-not-is_trace.false-raw in
+    watch_reported _ _ _ x e c.if-report-ne-REPORT_LENGTH.false _ (c.reports.ensures _ _ x.stand.read)
 
-returns-4 : tie.Need-returns-4
-returns-4 c = watch_refused _ _ _ _ _ (analysed_refused c.before.before.before.before.before.before.before.analyse.ensures c.before.number.given.1)
+returns-4 : tie.Need-returns-in-Refused
+returns-4 c = watch_refused _ _ _ _ _ (analysed_refused c.analyse.ensures c.in-Refused.is)
 
 pub watch_in_spec : {M : Type 1} → statement M
 watch_in_spec =

@@ -13,31 +13,31 @@ use borrow.Author.Rules.{rules}
 use Rattle.watches.proofs.later.Statement.{statement}
 use Rattle.watches.proofs.later.Tie as tie
 
-returns : tie.Need-returns
-returns c = λ x. not_expected c.before.before.later-opening.ensures c.enum_told.given.1 (later_unopened _ x _)
+returns : tie.Need-returns-in_default
+returns c = λ x. not_expected c.later_opening-opened.ensures c.in_default.is (later_unopened _ x _)
 
-listed-requires : tie.Need-listed-requires
+listed-requires : tie.Need-listed-second-requires
 unfolding is kind_number
 listed-requires c κs =
-    let p = found c.before.before.before.before.later-opening.ensures c.before.before.opened.given.1 in
-    (c.before.before.before.before.before.before.before.before.before.requires.0, room_phrase {u = c.before.before.before.before.before.before.before.before.before.args.to} later_opening (refl, (refl, (refl, tt))) c.before.before.before.before.before.before.before.before.before.requires.1 p (omega arith))
+    let p = found c.later_opening-opened.ensures c.in-Done.is in
+    (c.requires.0, room_phrase {u = c.args.to} later_opening (refl, (refl, (refl, tt))) c.requires.1 p (omega arith))
 
-returns-2 : tie.Need-returns-2
+returns-2 : tie.Need-returns-in_default-second
 returns-2 c =
-    let p = found c.before.before.before.before.before.before.before.before.before.later-opening.ensures c.before.before.before.before.before.before.before.opened.given.1 in
-    λ x. not_read c.before.before.before.before.listed.ensures c.enum-told2.given.1 (second_refused _ x _ p)
+    let p = found c.later_opening-opened.ensures c.in-Done.is in
+    λ x. not_read c.listed-second.ensures c.in_default-second.is (second_refused _ x _ p)
 
-returns-3 : tie.Need-returns-3
+returns-3 : tie.Need-returns-in_default-closed
 returns-3 c =
-    let p = found c.before.before.before.before.before.before.before.before.before.before.before.before.before.later-opening.ensures c.before.before.before.before.before.before.before.before.before.before.before.opened.given.1 in
-    let l = accepted_by c.before.before.before.before.before.before.before.before.listed.ensures c.before.before.before.before.second.given.1 in
-    λ x. not_expected c.before.before.function-closing.ensures c.enum-told3.given.1 (later_unclosed _ x _ p l.is)
+    let p = found c.later_opening-opened.ensures c.in-Done.is in
+    let l = accepted_by c.listed-second.ensures c.in-Done-second.is in
+    λ x. not_expected c.function_closing-closed.ensures c.in_default-closed.is (later_unclosed _ x _ p l.is)
 
-returns-4 : tie.Need-returns-4
+returns-4 : tie.Need-returns
 returns-4 c =
-    let p = found c.before.before.before.before.before.before.before.before.before.before.before.before.before.before.before.later-opening.ensures c.before.before.before.before.before.before.before.before.before.before.before.before.before.opened.given.1 in
-    let l = accepted_by c.before.before.before.before.before.before.before.before.before.before.listed.ensures c.before.before.before.before.before.before.second.given.1 in
-    let q = found c.before.before.before.before.function-closing.ensures c.before.before.closed.given.1 in
+    let p = found c.later_opening-opened.ensures c.in-Done.is in
+    let l = accepted_by c.listed-second.ensures c.in-Done-second.is in
+    let q = found c.function_closing-closed.ensures c.in-Done-closed.is in
     λ x. writes c.reached.ensures (record { tree = record { first = x; later = some l.tree }; is = later_accepted _ x _ p l.is q; ended = l.count; tells_it = refl; wrote = l.wrote })
 
 pub later_spec : {M : Type 1} → statement M

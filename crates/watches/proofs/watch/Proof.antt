@@ -16,52 +16,52 @@ use borrow.Author.Rules.{rules}
 use Rattle.watches.proofs.watch.Statement.{statement}
 use Rattle.watches.proofs.watch.Tie as tie
 
-returns : tie.Need-returns
-returns c = not_expected c.before.before.watch-opening.ensures c.enum_told.given.1 (watch_unopened _ _)
+returns : tie.Need-returns-in_default
+returns c = not_expected c.watch_opening-opened.ensures c.in_default.is (watch_unopened _ _)
 
-listed-requires : tie.Need-listed-requires
+listed-requires : tie.Need-listed-first-requires
 unfolding is kind_number
 listed-requires c κs =
-    let p = found c.before.before.before.before.watch-opening.ensures c.before.before.opened.given.1 in
-    (c.before.before.before.before.before.before.before.before.before.requires.0, room_phrase {u = c.before.before.before.before.before.before.before.before.before.args.to} watch_opening (refl, (refl, (refl, (refl, tt)))) c.before.before.before.before.before.before.before.before.before.requires.1 p (omega arith))
+    let p = found c.watch_opening-opened.ensures c.in-Done.is in
+    (c.requires.0, room_phrase {u = c.args.to} watch_opening (refl, (refl, (refl, (refl, tt)))) c.requires.1 p (omega arith))
 
-returns-2 : tie.Need-returns-2
+returns-2 : tie.Need-returns-in_default-first
 returns-2 c =
-    let p = found c.before.before.before.before.before.before.before.before.before.watch-opening.ensures c.before.before.before.before.before.before.before.opened.given.1 in
-    not_read c.before.before.before.before.listed.ensures c.enum-told2.given.1 (first_refused _ _ p)
+    let p = found c.watch_opening-opened.ensures c.in-Done.is in
+    not_read c.listed-first.ensures c.in_default-first.is (first_refused _ _ p)
 
 later-requires : tie.Need-later-requires
 unfolding is kind_number
 later-requires c κs =
-    let p = found c.before.before.before.before.before.before.before.before.before.before.before.before.before.watch-opening.ensures c.before.before.before.before.before.before.before.before.before.before.before.opened.given.1 in
-    let rp = room_phrase {u = c.before.before.before.before.before.before.before.before.before.before.before.before.before.before.before.before.before.before.args.to} watch_opening (refl, (refl, (refl, (refl, tt)))) c.before.before.before.before.before.before.before.before.before.before.before.before.before.before.before.before.before.before.requires.1 p (omega arith) in
-    let l = accepted_by c.before.before.before.before.before.before.before.before.listed.ensures c.before.before.before.before.first.given.1 in
-    let rl = room_after rp (listed_grown _ (few_names _ c.before.before.before.before.before.before.before.before.before.before.before.before.before.before.before.before.before.before.requires.0) _ rp.within) l in
-    (c.before.before.before.before.before.before.before.before.before.before.before.before.before.before.before.before.before.before.requires.0, room_next rl l.stands)
+    let p = found c.watch_opening-opened.ensures c.in-Done.is in
+    let rp = room_phrase {u = c.args.to} watch_opening (refl, (refl, (refl, (refl, tt)))) c.requires.1 p (omega arith) in
+    let l = accepted_by c.listed-first.ensures c.in-Done-first.is in
+    let rl = room_after rp (listed_grown _ (few_names _ c.requires.0) _ rp.within) l in
+    (c.requires.0, room_next rl l.stands)
 
-returns-3 : tie.Need-returns-3
+returns-3 : tie.Need-returns-then-behind-eq-ARROW
 unfolding kind_number
 returns-3 c =
-    let p = found c.before.before.before.before.before.before.before.before.before.before.before.before.before.before.before.before.watch-opening.ensures c.before.before.before.before.before.before.before.before.before.before.before.before.before.before.opened.given.1 in
-    let l = accepted_by c.before.before.before.before.before.before.before.before.before.before.before.listed.ensures c.before.before.before.before.before.before.before.first.given.1 in
-    reads_as (watch_paired _ _ p l.is l.stands.read (told l.stands arrow c.before.before.before.before.if1.true)) (both_written _ l.tree _ l.count l.wrote (c.before.before.later.ensures l.tree))
+    let p = found c.watch_opening-opened.ensures c.in-Done.is in
+    let l = accepted_by c.listed-first.ensures c.in-Done-first.is in
+    reads_as (watch_paired _ _ p l.is l.stands.read (told l.stands arrow c.if-behind-eq-ARROW.true)) (both_written _ l.tree _ l.count l.wrote (c.later.ensures l.tree))
 
-returns-4 : tie.Need-returns-4
+returns-4 : tie.Need-returns-in_default-closed
 unfolding kind_number
 returns-4 c =
-    let p = found c.before.before.before.before.before.before.before.before.before.before.before.before.before.before.before.watch-opening.ensures c.before.before.before.before.before.before.before.before.before.before.before.before.before.opened.given.1 in
-    let l = accepted_by c.before.before.before.before.before.before.before.before.before.before.listed.ensures c.before.before.before.before.before.before.first.given.1 in
-    not_expected c.before.before.formula-closing.ensures c.enum-told3.given.1 (watch_unclosed _ _ p l.is l.stands.read (untold l.stands arrow c.before.before.before.if1.false))
+    let p = found c.watch_opening-opened.ensures c.in-Done.is in
+    let l = accepted_by c.listed-first.ensures c.in-Done-first.is in
+    not_expected c.formula_closing-closed.ensures c.in_default-closed.is (watch_unclosed _ _ p l.is l.stands.read (untold l.stands arrow c.if-behind-eq-ARROW.false))
 
-returns-5 : tie.Need-returns-5
+returns-5 : tie.Need-returns
 unfolding kind_number
 returns-5 c =
-    let p = found c.before.before.before.before.before.before.before.before.before.before.before.before.before.before.before.before.before.watch-opening.ensures c.before.before.before.before.before.before.before.before.before.before.before.before.before.before.before.opened.given.1 in
-    let l = accepted_by c.before.before.before.before.before.before.before.before.before.before.before.before.listed.ensures c.before.before.before.before.before.before.before.before.first.given.1 in
-    let q = found c.before.before.before.before.formula-closing.ensures c.before.before.closed.given.1 in
+    let p = found c.watch_opening-opened.ensures c.in-Done.is in
+    let l = accepted_by c.listed-first.ensures c.in-Done-first.is in
+    let q = found c.formula_closing-closed.ensures c.in-Done-closed.is in
     writes c.reached.ensures (record {
       tree = record { first = l.tree; later = none };
-      is = watch_accepted _ _ p l.is l.stands.read (untold l.stands arrow c.before.before.before.before.before.if1.false) q;
+      is = watch_accepted _ _ p l.is l.stands.read (untold l.stands arrow c.if-behind-eq-ARROW.false) q;
       ended = rw (append-nil _) l.count;
       tells_it = l.count;
       wrote = rw (append-nil _) l.wrote;

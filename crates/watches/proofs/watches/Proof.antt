@@ -14,53 +14,53 @@ use Rattle.watches.proofs.Reading.{Reading, reading_first, reading_end, reading_
 use Rattle.watches.proofs.watches.Statement.{statement}
 use Rattle.watches.proofs.watches.Tie as tie
 
-abbrev invariant_loop : tie.invariant_loop
+abbrev invariant_loop : tie.invariant-loop-kind
 invariant_loop text starts ends names nothing₀ at₀ kind₀ start₀ end₀ count₀ nothing at kind start end count =
     Reading (scope_of text starts ends names) at₀ at kind start end count × (length nothing ≡ 0)
 
-abbrev decreases_loop : tie.decreases_loop
+abbrev decreases_loop : tie.decreases-loop-kind
 decreases_loop text starts ends names nothing₀ at₀ kind₀ start₀ end₀ count₀ nothing at kind start end count = 16 - count
 
-loop-holds : tie.Need-loop-init invariant_loop decreases_loop
-loop-holds c = (reading_first _ c.before.before.before.args.first c.before.before.before.requires.1.0 c.before.before.before.requires.1.1, refl)
+loop-holds : tie.Need-loop-kind-init invariant_loop decreases_loop
+loop-holds c = (reading_first _ c.args.first c.requires.1.0 c.requires.1.1, refl)
 
-returns : tie.Need-returns invariant_loop decreases_loop
+returns : tie.Need-returns-then-count-eq-WATCH_LIMIT invariant_loop decreases_loop
 unfolding kind_number
-returns c = reading_full c.before.before.loop.invariant.0 c.before.loop-test.true c.if1.true
+returns c = reading_full c.loop-kind.invariant.0 c.loop-kind-test.true c.if-count-eq-WATCH_LIMIT.true
 
-slice-aggregate-watch : tie.Need-slice-aggregate-watch invariant_loop decreases_loop
-slice-aggregate-watch c = sym c.before.before.before.loop.invariant.1
+slice-aggregate-watch : tie.Need-slice_bounds-watch-end invariant_loop decreases_loop
+slice-aggregate-watch c = sym c.loop-kind.invariant.1
 
-watch-requires : tie.Need-watch-requires invariant_loop decreases_loop
+watch-requires : tie.Need-watch-one-requires invariant_loop decreases_loop
 unfolding kind_number
-watch-requires c κs = (c.before.before.before.before.before.before.before.requires.0, reading_room c.before.before.before.loop.invariant.0 c.before.before.loop-test.true)
+watch-requires c κs = (c.requires.0, reading_room c.loop-kind.invariant.0 c.loop-kind-test.true)
 
-returns-2 : tie.Need-returns-2 invariant_loop decreases_loop
+returns-2 : tie.Need-returns-in_default invariant_loop decreases_loop
 unfolding kind_number
-returns-2 c = reading_refused c.before.before.before.before.before.before.before.loop.invariant.0 c.before.before.before.before.before.before.loop-test.true c.before.before.before.before.before.if1.false c.enum_told.given.1 (refused_part c.before.before.before.watch.ensures c.enum_told.given.1)
+returns-2 c = reading_refused c.loop-kind.invariant.0 c.loop-kind-test.true c.if-count-eq-WATCH_LIMIT.false c.in_default.is (refused_part c.watch-one.ensures c.in_default.is)
 
-returns-3 : tie.Need-returns-3 invariant_loop decreases_loop
+returns-3 : tie.Need-returns-in_default-read invariant_loop decreases_loop
 unfolding kind_number
 returns-3 c =
-    let g = got c.before.before.before.before.before.before.before.watch.ensures c.before.before.before.before.one.given.1 in
-    reading_fault c.before.before.before.before.before.before.before.before.before.before.before.loop.invariant.0 c.before.before.before.before.before.before.before.before.before.before.loop-test.true c.before.before.before.before.before.before.before.before.before.if1.false g.is c.enum-told2.given.1 (is_fault _ _ _ c.before.before.token-at.ensures _ _ c.enum-told2.given.1)
+    let g = got c.watch-one.ensures c.in-Done.is in
+    reading_fault c.loop-kind.invariant.0 c.loop-kind-test.true c.if-count-eq-WATCH_LIMIT.false g.is c.in_default-read.is (is_fault _ _ _ c.token_at-read.ensures _ _ c.in_default-read.is)
 
-add-count : tie.Need-overflow-add-count invariant_loop decreases_loop
-add-count c = omega (arith, c.before.before.before.before.before.before.before.before.before.before.before.before.loop.invariant.0.few)
+add-count : tie.Need-overflow_add-count invariant_loop decreases_loop
+add-count c = omega (arith, c.loop-kind.invariant.0.few)
 
-loop-less : tie.Need-loop-smaller invariant_loop decreases_loop
-loop-less c = omega (arith, c.before.before.before.before.before.before.before.before.before.before.before.before.loop.invariant.0.few, c.before.before.before.before.before.before.before.before.before.before.if1.false)
+loop-less : tie.Need-loop-kind-smaller invariant_loop decreases_loop
+loop-less c = omega (arith, c.loop-kind.invariant.0.few, c.if-count-eq-WATCH_LIMIT.false)
 
-loop-again : tie.Need-loop-preserved invariant_loop decreases_loop
+loop-again : tie.Need-loop-kind-preserved invariant_loop decreases_loop
 unfolding kind_number
 loop-again c =
-    let g = got c.before.before.before.before.before.before.before.before.watch.ensures c.before.before.before.before.before.one.given.1 in
-    let f = found_token _ _ c.before.before.before.token-at.ensures c.before.read.given.1 in
-    (reading_more c.before.before.before.before.before.before.before.before.before.before.before.before.loop.invariant.0 c.before.before.before.before.before.before.before.before.before.before.before.loop-test.true c.before.before.before.before.before.before.before.before.before.before.if1.false g.is (few_names _ c.before.before.before.before.before.before.before.before.before.before.before.before.before.before.before.before.requires.0) f, c.before.before.before.before.before.before.before.before.watch.auto.1.1.1.1.1.0 ∙ c.before.before.before.before.before.before.before.before.before.before.before.before.loop.invariant.1)
+    let g = got c.watch-one.ensures c.in-Done.is in
+    let f = found_token _ _ c.token_at-read.ensures c.in-Done-read.is in
+    (reading_more c.loop-kind.invariant.0 c.loop-kind-test.true c.if-count-eq-WATCH_LIMIT.false g.is (few_names _ c.requires.0) f, c.watch-one.auto.out ∙ c.loop-kind.invariant.1)
 
-returns-4 : tie.Need-returns-4 invariant_loop decreases_loop
+returns-4 : tie.Need-returns invariant_loop decreases_loop
 unfolding kind_number
-returns-4 c = reading_end c.before.loop.invariant.0 c.loop-test.false
+returns-4 c = reading_end c.loop-kind.invariant.0 c.loop-kind-test.false
 
 pub watches_spec : {M : Type 1} → statement M
 watches_spec =

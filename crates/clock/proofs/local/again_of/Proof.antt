@@ -15,40 +15,40 @@ use Rattle.clock.proofs.Entries.{repeats_end, repeats_here, repeats_goes, small_
 use Rattle.clock.proofs.local.again_of.Statement.{statement}
 use Rattle.clock.proofs.local.again_of.Tie as tie
 
-abbrev invariant_loop : tie.invariant_loop
+abbrev invariant_loop : tie.invariant-loop-i
 invariant_loop table utc local i₀ i = (i ≤ length table) × SmallNumbers (entries_of (drop i table)) × (repeats_in (entries_of table) (to_z w64 utc) (entries_of (drop i table)) ≡ is_again (entries_of table) (to_z w64 utc))
 
-abbrev decreases_loop : tie.decreases_loop
+abbrev decreases_loop : tie.decreases-loop-i
 decreases_loop table utc local i₀ i = length table - i
 
-mul-repeats : tie.Need-overflow-mul-repeats invariant_loop decreases_loop
-mul-repeats c = omega (arith, c.before.before.well_formed.0.1)
+mul-repeats : tie.Need-offset_bounds-table-i invariant_loop decreases_loop
+mul-repeats c = omega (arith, c.well_formed.0.1)
 
-offset_fits : (c : tie.After-repeats-arg invariant_loop decreases_loop) → SFits w64 (get_or c.before.before.before.args.table.now (c.before.before.loop.i + 1) (pos 0))
-offset_fits c = record { sfits = c.repeats-arg.given }
+offset_fits : (c : tie.After-repeats-arg-1 invariant_loop decreases_loop) → SFits w64 (get_or c.args.table.now (c.loop-i.i + 1) (pos 0))
+offset_fits c = record { sfits = c.repeats-arg-1.given }
 
 repeats-requires : tie.Need-repeats-requires invariant_loop decreases_loop
-repeats-requires c κs = rw (same64 c.before.before.before.ranges.local, same64 (offset_fits c)) (c.before.before.before.requires.1, (small_step _ _ c.before.loop-test.true c.before.before.loop.invariant.1).0)
+repeats-requires c κs = rw (same64 c.ranges.local, same64 (offset_fits c)) (c.requires.1, (small_step _ _ c.loop-i-test.true c.loop-i.invariant.1).0)
 
 -- what the test says of the numbers themselves
-tested : (c : tie.After-repeats invariant_loop decreases_loop) → c.repeats.result ≡ repeats-of (entries_of c.before.before.before.before.args.table.now) c.before.before.before.before.args.utc (get_or c.before.before.before.before.args.table.now (c.before.before.before.loop.i + 1) (pos 0))
+tested : (c : tie.After-repeats invariant_loop decreases_loop) → c.repeats.result ≡ repeats-of (entries_of c.args.table.now) c.args.utc (get_or c.args.table.now (c.loop-i.i + 1) (pos 0))
 tested c =
-    let f = c.before.before.before.before.ranges in
-    rw c.before.before.before.before.requires.2 at (rw (same64 f.local, same64 f.utc, same64 (offset_fits c.before)) at c.repeats.ensures)
+    let f = c.ranges in
+    rw c.requires.2 at (rw (same64 f.local, same64 f.utc, same64 (offset_fits c.before)) at c.repeats.ensures)
 
-returns : tie.Need-returns invariant_loop decreases_loop
+returns : tie.Need-returns-then-repeats invariant_loop decreases_loop
 returns c =
-    let e : true ≡ is_again (entries_of c.before.before.before.before.before.args.table.now) c.before.before.before.before.before.args.utc = sym (repeats_here _ _ _ _ c.before.before.before.loop-test.true (sym (tested c.before) ∙ c.if1.true)) ∙ rw (same64 c.before.before.before.before.before.ranges.utc) at c.before.before.before.before.loop.invariant.2 in
+    let e : true ≡ is_again (entries_of c.args.table.now) c.args.utc = sym (repeats_here _ _ _ _ c.loop-i-test.true (sym (tested c.before) ∙ c.if-repeats.true)) ∙ rw (same64 c.ranges.utc) at c.loop-i.invariant.2 in
     rw (← e)
 
-loop-again : tie.Need-loop-preserved invariant_loop decreases_loop
+loop-again : tie.Need-loop-i-preserved invariant_loop decreases_loop
 loop-again c =
-    let e = sym (repeats_goes _ _ _ _ c.before.before.before.loop-test.true (sym (tested c.before) ∙ c.if1.false)) ∙ rw (same64 c.before.before.before.before.before.ranges.utc) at c.before.before.before.before.loop.invariant.2 in
-    (omega arith, (small_step _ _ c.before.before.before.loop-test.true c.before.before.before.before.loop.invariant.1).1, rw (same64 c.before.before.before.before.before.ranges.utc) e)
+    let e = sym (repeats_goes _ _ _ _ c.loop-i-test.true (sym (tested c.before) ∙ c.if-repeats.false)) ∙ rw (same64 c.ranges.utc) at c.loop-i.invariant.2 in
+    (omega arith, (small_step _ _ c.loop-i-test.true c.loop-i.invariant.1).1, rw (same64 c.ranges.utc) e)
 
-returns-2 : tie.Need-returns-2 invariant_loop decreases_loop
+returns-2 : tie.Need-returns invariant_loop decreases_loop
 returns-2 c =
-    let e : false ≡ is_again (entries_of c.before.before.args.table.now) c.before.before.args.utc = sym (repeats_end _ _ _ _ c.loop-test.false) ∙ rw (same64 c.before.before.ranges.utc) at c.before.loop.invariant.2 in
+    let e : false ≡ is_again (entries_of c.args.table.now) c.args.utc = sym (repeats_end _ _ _ _ c.loop-i-test.false) ∙ rw (same64 c.ranges.utc) at c.loop-i.invariant.2 in
     rw (← e)
 
 pub again_of_spec : {M : Type 1} → statement M

@@ -14,38 +14,38 @@ use Rattle.clock.proofs.Entries.{fit_end, fit_stops, fit_goes}
 use Rattle.clock.proofs.local.are_entries.Statement.{statement}
 use Rattle.clock.proofs.local.are_entries.Tie as tie
 
-abbrev invariant_loop : tie.invariant_loop
+abbrev invariant_loop : tie.invariant-loop-i
 invariant_loop table last₀ i₀ last i = (i ≤ length table) × (entries_fit (to_z w64 last) (entries_of (drop i table)) ≡ entries_fit (negsuc 0) (entries_of table))
 
-abbrev decreases_loop : tie.decreases_loop
+abbrev decreases_loop : tie.decreases-loop-i
 decreases_loop table last₀ i₀ last i = length table - i
 
-mul-is-entry : tie.Need-overflow-mul-is-entry invariant_loop decreases_loop
-mul-is-entry c = omega (arith, c.before.before.well_formed.0.1)
+mul-is-entry : tie.Need-offset_bounds-table-i invariant_loop decreases_loop
+mul-is-entry c = omega (arith, c.well_formed.0.1)
 
-mul-is-entry-2 : tie.Need-overflow-mul-is-entry-2 invariant_loop decreases_loop
-mul-is-entry-2 c = omega (arith, c.before.before.before.well_formed.0.1)
+mul-is-entry-2 : tie.Need-offset_bounds-table-i-in-loop-i invariant_loop decreases_loop
+mul-is-entry-2 c = omega (arith, c.well_formed.0.1)
 
 -- what the entry's test says of the numbers themselves
-tested : (c : tie.After-is-entry invariant_loop decreases_loop) → c.is-entry.result ≡ entry_fits (to_z w64 c.before.before.before.before.loop.last) (get_or c.before.before.before.before.before.args.table.now c.before.before.before.before.loop.i (pos 0)) (get_or c.before.before.before.before.before.args.table.now (c.before.before.before.before.loop.i + 1) (pos 0))
+tested : (c : tie.After-is_entry invariant_loop decreases_loop) → c.is_entry.result ≡ entry_fits (to_z w64 c.loop-i.last-bits) (get_or c.args.table.now c.loop-i.i (pos 0)) (get_or c.args.table.now (c.loop-i.i + 1) (pos 0))
 tested c =
-    let fm : SFits w64 (get_or c.before.before.before.before.before.args.table.now c.before.before.before.before.loop.i (pos 0)) = record { sfits = c.before.before.is-entry-arg.given } in
-    let fo : SFits w64 (get_or c.before.before.before.before.before.args.table.now (c.before.before.before.before.loop.i + 1) (pos 0)) = record { sfits = c.before.is-entry-arg2.given } in
-    rw (same64 fm, same64 fo) at c.is-entry.ensures
+    let fm : SFits w64 (get_or c.args.table.now c.loop-i.i (pos 0)) = record { sfits = c.is_entry-arg-1.given } in
+    let fo : SFits w64 (get_or c.args.table.now (c.loop-i.i + 1) (pos 0)) = record { sfits = c.is_entry-arg-in-loop-i-1.given } in
+    rw (same64 fm, same64 fo) at c.is_entry.ensures
 
-returns : tie.Need-returns invariant_loop decreases_loop
-returns c = sym (fit_stops _ _ _ c.before.before.before.before.loop-test.true (sym (tested c.before) ∙ not-true _ c.if1.true)) ∙ c.before.before.before.before.before.loop.invariant.1
+returns : tie.Need-returns-then-not-is_entry invariant_loop decreases_loop
+returns c = sym (fit_stops _ _ _ c.loop-i-test.true (sym (tested c.before) ∙ not-true _ c.if-not-is_entry.true-raw)) ∙ c.loop-i.invariant.1
 
-mul-last : tie.Need-overflow-mul-last invariant_loop decreases_loop
-mul-last c = omega (arith, c.before.before.before.before.before.before.well_formed.0.1)
+mul-last : tie.Need-offset_bounds-table-i-in-loop-i-2 invariant_loop decreases_loop
+mul-last c = omega (arith, c.well_formed.0.1)
 
-loop-again : tie.Need-loop-preserved invariant_loop decreases_loop
+loop-again : tie.Need-loop-i-preserved invariant_loop decreases_loop
 loop-again c =
-    let fm : SFits w64 (get_or c.before.before.before.before.before.before.before.args.table.now c.before.before.before.before.before.before.loop.i (pos 0)) = record { sfits = c.last.given } in
-    (omega arith, rw (same64 fm) (sym (fit_goes _ _ _ c.before.before.before.before.before.loop-test.true (sym (tested c.before.before) ∙ not-false _ c.before.if1.false)) ∙ c.before.before.before.before.before.before.loop.invariant.1))
+    let fm : SFits w64 (get_or c.args.table.now c.loop-i.i (pos 0)) = record { sfits = c.last-1.given } in
+    (omega arith, rw (same64 fm) (sym (fit_goes _ _ _ c.loop-i-test.true (sym (tested c.before.before) ∙ not-false _ c.if-not-is_entry.false-raw)) ∙ c.loop-i.invariant.1))
 
-returns-2 : tie.Need-returns-2 invariant_loop decreases_loop
-returns-2 c = sym (fit_end _ _ _ c.loop-test.false) ∙ c.before.loop.invariant.1
+returns-2 : tie.Need-returns invariant_loop decreases_loop
+returns-2 c = sym (fit_end _ _ _ c.loop-i-test.false) ∙ c.loop-i.invariant.1
 
 pub are_entries_spec : {M : Type 1} → statement M
 are_entries_spec =

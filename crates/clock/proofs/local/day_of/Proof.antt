@@ -4,11 +4,11 @@ use Rattle.clock.proofs.Held.{same64, Below, below_zero, Above, from_zero}
 use Rattle.clock.proofs.local.day_of.Statement.{statement}
 use Rattle.clock.proofs.local.day_of.Tie as tie
 
-below : (c : tie.Then1) → Below c.before.args.local
-below c = below_zero _ c.before.requires (rw (same64 c.before.ranges.local) at c.if1.true)
+below : (c : tie.Then-local-lt0) → Below c.args.local
+below c = below_zero _ c.requires (rw (same64 c.ranges.local) at c.if-local-lt0.true)
 
-above : (c : tie.Else1) → Above c.before.args.local
-above c = from_zero _ c.before.requires (rw (same64 c.before.ranges.local) at c.if1.false)
+above : (c : tie.Else-local-lt0) → Above c.args.local
+above c = from_zero _ c.requires (rw (same64 c.ranges.local) at c.if-local-lt0.false)
 
 pub day_of_spec : {M : Type 1} → statement M
 day_of_spec =

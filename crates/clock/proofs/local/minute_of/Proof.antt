@@ -7,11 +7,11 @@ use Rattle.clock.proofs.Held.{same64, Left, left-of}
 use Rattle.clock.proofs.local.minute_of.Statement.{statement}
 use Rattle.clock.proofs.local.minute_of.Tie as tie
 
-day_fits : (c : tie.After-day-of) → SFits w32 c.day-of.result
-day_fits c = record { sfits = c.day-of.type-inv }
+day_fits : (c : tie.After-day_of) → SFits w32 c.day_of.result
+day_fits c = record { sfits = c.day_of.type_inv }
 
-left : (c : tie.After-day-of) → Left c.before.args.local c.day-of.result
-left c = left-of _ _ c.before.requires (day_fits c) (rw (same64 c.before.ranges.local) at c.day-of.ensures)
+left : (c : tie.After-day_of) → Left c.args.local c.day_of.result
+left c = left-of _ _ c.requires (day_fits c) (rw (same64 c.ranges.local) at c.day_of.ensures)
 
 pub minute_of_spec : {M : Type 1} → statement M
 minute_of_spec =

@@ -20,22 +20,20 @@ earlier_fits c = difference_fits c.args.local c.args.offset c.requires.0 c.requi
 earlier : (c : tie.Start) → to_z w64 (of_z w64 (to_z w64 (of_z w64 c.args.local) -ℤ to_z w64 (of_z w64 c.args.offset))) ≡ c.args.local -ℤ c.args.offset
 earlier c = rw (same64 c.ranges.local, same64 c.ranges.offset) (same64 (earlier_fits c))
 
-sub-earlier : tie.Need-overflow-sub-earlier
+sub-earlier : tie.Need-overflow_sub-earlier
 sub-earlier c = rw (same64 c.ranges.local, same64 c.ranges.offset) (earlier_fits c)
 
-returns : tie.Need-returns
+returns : tie.Need-returns-then-earlier-utc
 returns c =
-    let start = c.before.before in
-    let a = start.args in
-    let h : lt_z (a.local -ℤ a.offset) a.utc ≡ true = rw (earlier start, same64 start.ranges.utc) at c.before.if1.true in
-    let q : c.offset_at.result ≡ offset_at (entries_of a.table.now) (a.local -ℤ a.offset) = c.offset_at.ensures ∙ ap (offset_at (entries_of a.table.now)) (earlier start) in
-    rw h (eq_bits {w = w64} c.offset_at.result _ (record { sfits = c.offset_at.type-inv }) start.ranges.offset ∙ ap (λ (x : ℤ). eq_z x a.offset) q)
+    let a = c.args in
+    let h : lt_z (a.local -ℤ a.offset) a.utc ≡ true = rw (earlier c.before.before, same64 c.ranges.utc) at c.if-earlier-utc.true in
+    let q : c.offset_at.result ≡ offset_at (entries_of a.table.now) (a.local -ℤ a.offset) = c.offset_at.ensures ∙ ap (offset_at (entries_of a.table.now)) (earlier c.before.before) in
+    rw h (eq_bits {w = w64} c.offset_at.result _ (record { sfits = c.offset_at.type_inv }) c.ranges.offset ∙ ap (λ (x : ℤ). eq_z x a.offset) q)
 
-returns-2 : tie.Need-returns-2
+returns-2 : tie.Need-returns
 returns-2 c =
-    let start = c.before in
-    let a = start.args in
-    let h : lt_z (a.local -ℤ a.offset) a.utc ≡ false = rw (earlier start, same64 start.ranges.utc) at c.if1.false in
+    let a = c.args in
+    let h : lt_z (a.local -ℤ a.offset) a.utc ≡ false = rw (earlier c.before, same64 c.ranges.utc) at c.if-earlier-utc.false in
     rw h
 
 pub repeats_spec : {M : Type 1} → statement M

@@ -21,11 +21,11 @@ use Rattle.conditions.proofs.conjunction.Kinds as conjunction-kinds
 use Rattle.conditions.proofs.+atom_condition_conjunction_inverted_square.Lts-conjunction as lts
 use Rattle.conditions.proofs.+atom_condition_conjunction_inverted_square.Proof.Measures.{μ-atom, μ-conjunction}
 
-abbrev Inv-loop : lts.invariant_loop
+abbrev Inv-loop : lts.invariant-loop-behind
 Inv-loop text starts ends names at left out₀ to a₀ t₀ code₀ out a t code =
     Turn bytes_c connect and_of (atom_in left (scope_of text starts ends names)) text at to out₀ a t code out
 
-abbrev μ_loop : lts.decreases_loop
+abbrev μ_loop : lts.decreases-loop-behind
 μ_loop text starts ends names at left out₀ to a₀ t₀ code₀ out a t code = length text - a
 
 module _ (t : ℕ) where
@@ -43,10 +43,10 @@ module _ (t : ℕ) where
       (λ c κs. search (turn_room ands, arith))
       (λ c. search rules) (λ c. search rules)
       (λ c. cc)
-      (λ c. turn_refused ands _ _ c.before.before.before.before.before.before.loop.invariant c.before.before.before.before.atom.ensures c.enum_told.given.1)
-      (λ c κs. turn_fits ands _ _ c.before.before.before.before.before.before.before.before.loop.invariant c.before.before.before.before.before.before.atom.ensures c.before.before.part.given.1)
+      (λ c. turn_refused ands _ _ c.loop-behind.invariant c.atom-part.ensures c.in_default.is)
+      (λ c κs. turn_fits ands _ _ c.loop-behind.invariant c.atom-part.ensures c.in-Done.is)
       (λ c κs. search rules)
       (λ c. cc)
-      (λ c. turn_done ands _ _ c.before.before.before.before.before.before.before.before.before.before.before.before.before.loop.invariant c.before.before.before.before.before.before.before.before.before.before.before.atom.ensures c.before.before.before.before.before.before.before.part.given.1 c.before.before.before.before.put-operator.ensures c.before.and-code.ensures c.if1.true)
-      (λ c. turn_less ands _ _ c.before.before.before.before.before.before.before.before.before.before.before.before.before.loop.invariant c.before.before.before.before.before.before.before.before.before.before.before.atom.ensures c.before.before.before.before.before.before.before.part.given.1 c.before.before.before.before.put-operator.ensures c.before.and-code.ensures c.if1.false)
-      (λ c. turn_more ands _ _ c.before.before.before.before.before.before.before.before.before.before.before.before.before.loop.invariant c.before.before.before.before.before.before.before.before.before.before.before.atom.ensures c.before.before.before.before.before.before.before.part.given.1 c.before.before.before.before.put-operator.ensures c.before.and-code.ensures c.if1.false)
+      (λ c. turn_done ands _ _ c.loop-behind.invariant c.atom-part.ensures c.in-Done.is c.put_operator.ensures c.and_code-code.ensures c.if-code-eq0.true)
+      (λ c. turn_less ands _ _ c.loop-behind.invariant c.atom-part.ensures c.in-Done.is c.put_operator.ensures c.and_code-code.ensures c.if-code-eq0.false)
+      (λ c. turn_more ands _ _ c.loop-behind.invariant c.atom-part.ensures c.in-Done.is c.put_operator.ensures c.and_code-code.ensures c.if-code-eq0.false)

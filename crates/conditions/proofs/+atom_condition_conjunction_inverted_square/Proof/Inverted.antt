@@ -34,8 +34,8 @@ module _ (t : ℕ) where
       (λ c. search rules) (λ c. search rules) (λ c. search rules)
       (λ c. search inverted_refuses)
       (λ c κs.
-      let asks = c.before.before.before.before.before.before.before.before.before.before.before.before.before.before.before.before.before.before.requires in
-      square_fits _ _ _ _ _ _ _ c.before.before.inner.given.1 c.before.before.before.before.before.before.square.ensures c.before.before.before.before.before.before.before.before.before.before.before.read.given.1 c.before.before.before.before.before.before.before.before.before.before.before.before.before.ahead.ensures c.before.before.before.before.before.before.before.before.if1.true asks.1.0 asks.1.1)
+      let asks = c.requires in
+      square_fits _ _ _ _ _ _ _ c.in-Done-inner.is c.square-inner.ensures c.in-Done.is c.ahead-read.ensures c.if-here-eq-OPEN_SQUARE.true asks.1.0 asks.1.1)
       (λ c. search rules)
       (λ c. search inverted_accepts)
       (λ c. search (refuses, refused_now, inverted_none))

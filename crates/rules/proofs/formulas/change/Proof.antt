@@ -14,141 +14,99 @@ use borrow.Author.Rules.{rules}
 use Rattle.rules.proofs.formulas.change.Statement.{statement}
 use Rattle.rules.proofs.formulas.change.Tie as tie
 
-returns : tie.Need-returns
-returns c = not_expected c.before.before.change-opening.ensures c.enum_told.given.1 (change_unopened _ _ _ _)
+returns : tie.Need-returns-in_default
+returns c = not_expected c.change_opening-opened.ensures c.in_default.is (change_unopened _ _ _ _)
 
-cases-requires : tie.Need-cases-requires
+cases-requires : tie.Need-cases-listed-requires
 unfolding is kind_number
 cases-requires c κs =
-    let at-opened = c.before.before.before.before in
-    let at-change-opening = at-opened.before.before in
-    let start = at-change-opening.before.before.before.before.before.before.before in
-    let p = found at-change-opening.change-opening.ensures at-opened.opened.given.1 in
-    let r = room_phrase {u = start.args.to} (change_opening _) (refl, (refl, (refl, (refl, tt)))) start.requires.1.0 p (omega arith) in
-    (start.requires.0, (r, (start.requires.1.1.0, (start.requires.1.1.1.0.in_from, start.requires.1.1.1.0.in_upto, omega arith))))
+    let p = found c.change_opening-opened.ensures c.in-Done.is in
+    let r = room_phrase {u = c.args.to} (change_opening _) (refl, (refl, (refl, (refl, tt)))) c.requires.1.0 p (omega arith) in
+    (c.requires.0, (r, (c.requires.1.1.0, (c.requires.1.1.1.0.in_from, c.requires.1.1.1.0.in_upto, omega arith))))
 
-returns-2 : tie.Need-returns-2
+returns-2 : tie.Need-returns-in_default-listed
 returns-2 c =
-    let at-cases = c.before.before.before.before.before.before.before.before in
-    let at-opened = at-cases.before.before.before.before.before in
-    let p = found at-opened.before.before.change-opening.ensures at-opened.opened.given.1 in
-    not_part at-cases.cases.ensures.0 c.enum-told2.given.1 (cases_refused _ _ _ _ p)
+    let p = found c.change_opening-opened.ensures c.in-Done.is in
+    not_part c.cases-listed.ensures.0 c.in_default-listed.is (cases_refused _ _ _ _ p)
 
-returns-3 : tie.Need-returns-3
+returns-3 : tie.Need-returns-in_default-next
 returns-3 c =
-    let at_Listed = c.before.before.before.before in
-    let at-cases = at_Listed.before.before.before.before.before.before.before.before in
-    let at-opened = at-cases.before.before.before.before.before in
-    let p = found at-opened.before.before.change-opening.ensures at-opened.opened.given.1 in
-    let g = got at-cases.cases.ensures.0 at_Listed.listed.given.1 in
-    not_expected c.before.before.no-change-opening.ensures c.enum-told3.given.1 (no_change_unopened _ _ _ _ p g.is)
+    let p = found c.change_opening-opened.ensures c.in-Done.is in
+    let g = got c.cases-listed.ensures.0 c.in-Done-listed.is in
+    not_expected c.no_change_opening-next.ensures c.in_default-next.is (no_change_unopened _ _ _ _ p g.is)
 
-agreeing-list-requires : tie.Need-agreeing-list-requires
+agreeing-list-requires : tie.Need-agreeing_list-agreed-requires
 unfolding is kind_number
 agreeing-list-requires c κs =
-    let at-no-change-opening = c.before.before.before.before.before in
-    let at_Listed = at-no-change-opening.before.before in
-    let at-cases = at_Listed.before.before.before.before.before.before.before.before in
-    let at-opened = at-cases.before.before.before.before.before in
-    let at-change-opening = at-opened.before.before in
-    let start = at-change-opening.before.before.before.before.before.before.before in
-    let p = found at-change-opening.change-opening.ensures at-opened.opened.given.1 in
-    let r = room_phrase {u = start.args.to} (change_opening _) (refl, (refl, (refl, (refl, tt)))) start.requires.1.0 p (omega arith) in
-    let g = got at-cases.cases.ensures.0 at_Listed.listed.given.1 in
-    let q = found at-no-change-opening.no-change-opening.ensures c.before.before.before.next.given.1 in
-    let rc = room_cases _ _ _ _ _ _ _ (few_names _ start.requires.0) start.requires.1.1.0 r g in
-    let l = at-cases.cases.ensures.1 in
-    (start.requires.0, (room_list (no_change_opening _) rc q, (told_spans _ _ _ _ _ _ l g, (start.requires.1.1.1.1, told_kept _ _ _ _ _ _ r.within l g))))
+    let p = found c.change_opening-opened.ensures c.in-Done.is in
+    let r = room_phrase {u = c.args.to} (change_opening _) (refl, (refl, (refl, (refl, tt)))) c.requires.1.0 p (omega arith) in
+    let g = got c.cases-listed.ensures.0 c.in-Done-listed.is in
+    let q = found c.no_change_opening-next.ensures c.in-Done-next.is in
+    let rc = room_cases _ _ _ _ _ _ _ (few_names _ c.requires.0) c.requires.1.1.0 r g in
+    let l = c.cases-listed.ensures.1 in
+    (c.requires.0, (room_list (no_change_opening _) rc q, (told_spans _ _ _ _ _ _ l g, (c.requires.1.1.1.1, told_kept _ _ _ _ _ _ r.within l g))))
 
-returns-4 : tie.Need-returns-4
+returns-4 : tie.Need-returns-in_default-agreed
 returns-4 c =
-    let at_next = c.before.before.before.before.before.before in
-    let at-no-change-opening = at_next.before.before in
-    let at_Listed = at-no-change-opening.before.before in
-    let at-cases = at_Listed.before.before.before.before.before.before.before.before in
-    let at-opened = at-cases.before.before.before.before.before in
-    let p = found at-opened.before.before.change-opening.ensures at-opened.opened.given.1 in
-    let g = got at-cases.cases.ensures.0 at_Listed.listed.given.1 in
-    let q = found at-no-change-opening.no-change-opening.ensures at_next.next.given.1 in
-    let l = c.before.before.agreeing-list.ensures g.tree (told_listed _ _ _ _ _ _ at-cases.cases.ensures.1 g) in
-    not_expected l c.enum-told4.given.1 (λ e. list_refused _ _ _ _ p g.is q (place_refused _ e))
+    let p = found c.change_opening-opened.ensures c.in-Done.is in
+    let g = got c.cases-listed.ensures.0 c.in-Done-listed.is in
+    let q = found c.no_change_opening-next.ensures c.in-Done-next.is in
+    let l = c.agreeing_list-agreed.ensures g.tree (told_listed _ _ _ _ _ _ c.cases-listed.ensures.1 g) in
+    not_expected l c.in_default-agreed.is (λ e. list_refused _ _ _ _ p g.is q (place_refused _ e))
 
-same-length-10 : tie.Need-same-length-10
-same-length-10 c = c.before.before.before.before.before.before.before.before.before.before.before.before.before.before.before.before.before.before.before.before.before.before.cases.auto.1.1.1.1.1.1.1.0
+same-length-10 : tie.Need-shape_of-from-in_default-closed
+same-length-10 c = c.cases-listed.auto.from
 
-same-length-11 : tie.Need-same-length-11
-same-length-11 c = c.before.before.before.before.before.before.before.before.before.before.before.before.before.before.before.before.before.before.before.before.before.before.cases.auto.1.1.1.1.1.1.1.1.0
+same-length-11 : tie.Need-shape_of-upto-in_default-closed
+same-length-11 c = c.cases-listed.auto.upto
 
-same-length-12 : tie.Need-same-length-12
-same-length-12 c = c.before.before.before.before.before.before.before.before.before.before.before.before.before.before.before.before.before.before.before.before.before.before.cases.auto.1.1.1.1.1.1.1.1.1.1.0
+same-length-12 : tie.Need-shape_of-out-in_default-closed
+same-length-12 c = c.cases-listed.auto.out
 
-returns-5 : tie.Need-returns-5
+returns-5 : tie.Need-returns-in_default-closed
 returns-5 c =
-    let at-agreed = c.before.before.before.before in
-    let at-agreeing-list = at-agreed.before.before in
-    let at_next = at-agreeing-list.before.before.before.before in
-    let at-no-change-opening = at_next.before.before in
-    let at_Listed = at-no-change-opening.before.before in
-    let at-cases = at_Listed.before.before.before.before.before.before.before.before in
-    let at-opened = at-cases.before.before.before.before.before in
-    let p = found at-opened.before.before.change-opening.ensures at-opened.opened.given.1 in
-    let g = got at-cases.cases.ensures.0 at_Listed.listed.given.1 in
-    let q = found at-no-change-opening.no-change-opening.ensures at_next.next.given.1 in
-    let l = at-agreeing-list.agreeing-list.ensures g.tree (told_listed _ _ _ _ _ _ at-cases.cases.ensures.1 g) in
-    let a = placed _ (found l at-agreed.agreed.given.1) in
-    not_expected c.before.before.formula-closing.ensures c.enum-told5.given.1 (change_unclosed _ _ _ _ p g.is q a.is)
+    let p = found c.change_opening-opened.ensures c.in-Done.is in
+    let g = got c.cases-listed.ensures.0 c.in-Done-listed.is in
+    let q = found c.no_change_opening-next.ensures c.in-Done-next.is in
+    let l = c.agreeing_list-agreed.ensures g.tree (told_listed _ _ _ _ _ _ c.cases-listed.ensures.1 g) in
+    let a = placed _ (found l c.in-Done-agreed.is) in
+    not_expected c.formula_closing-closed.ensures c.in_default-closed.is (change_unclosed _ _ _ _ p g.is q a.is)
 
-put-instruction-requires : tie.Need-put-instruction-requires
+put-instruction-requires : tie.Need-put_instruction-t-requires
 unfolding is kind_number
 put-instruction-requires c κs =
-    let at_Listed = c.before.before.before.before.before.before.before.before.before.before.before.before.before.before.before.before in
-    let at-cases = at_Listed.before.before.before.before.before.before.before.before in
-    let at-opened = at-cases.before.before.before.before.before in
-    let at-change-opening = at-opened.before.before in
-    let start = at-change-opening.before.before.before.before.before.before.before in
-    let p = found at-change-opening.change-opening.ensures at-opened.opened.given.1 in
-    let r = room_phrase {u = start.args.to} (change_opening _) (refl, (refl, (refl, (refl, tt)))) start.requires.1.0 p (omega arith) in
-    let g = got at-cases.cases.ensures.0 at_Listed.listed.given.1 in
-    let rc = room_cases _ _ _ _ _ _ _ (few_names _ start.requires.0) start.requires.1.1.0 r g in
-    (omega arith, omega (arith, start.requires.1.1.0))
+    let p = found c.change_opening-opened.ensures c.in-Done.is in
+    let r = room_phrase {u = c.args.to} (change_opening _) (refl, (refl, (refl, (refl, tt)))) c.requires.1.0 p (omega arith) in
+    let g = got c.cases-listed.ensures.0 c.in-Done-listed.is in
+    let rc = room_cases _ _ _ _ _ _ _ (few_names _ c.requires.0) c.requires.1.1.0 r g in
+    (omega arith, omega (arith, c.requires.1.1.0))
 
-same-length-13 : tie.Need-same-length-13
-same-length-13 c = c.before.before.before.before.before.before.before.before.before.before.before.before.before.before.before.before.before.before.before.before.before.before.before.before.before.before.before.before.cases.auto.1.1.1.1.1.1.1.0
+same-length-13 : tie.Need-shape_of-from
+same-length-13 c = c.cases-listed.auto.from
 
-same-length-14 : tie.Need-same-length-14
-same-length-14 c = c.before.before.before.before.before.before.before.before.before.before.before.before.before.before.before.before.before.before.before.before.before.before.before.before.before.before.before.before.cases.auto.1.1.1.1.1.1.1.1.0
+same-length-14 : tie.Need-shape_of-upto
+same-length-14 c = c.cases-listed.auto.upto
 
-same-length-15 : tie.Need-same-length-15
-same-length-15 c = c.before.before.before.put-instruction.auto.0 ∙ c.before.before.before.before.before.before.before.before.before.before.before.before.before.before.before.before.before.before.before.before.before.before.before.before.before.before.before.before.cases.auto.1.1.1.1.1.1.1.1.1.1.0
+same-length-15 : tie.Need-shape_of-out
+same-length-15 c = c.put_instruction-t.auto.out ∙ c.cases-listed.auto.out
 
-returns-6 : tie.Need-returns-6
+returns-6 : tie.Need-returns
 unfolding is kind_number
 returns-6 c =
-    let at-closed = c.before.before.before.before.before.before in
-    let at-formula-closing = at-closed.before.before in
-    let at-agreed = at-formula-closing.before.before in
-    let at-agreeing-list = at-agreed.before.before in
-    let at_next = at-agreeing-list.before.before.before.before in
-    let at-no-change-opening = at_next.before.before in
-    let at_Listed = at-no-change-opening.before.before in
-    let at-cases = at_Listed.before.before.before.before.before.before.before.before in
-    let at-opened = at-cases.before.before.before.before.before in
-    let at-change-opening = at-opened.before.before in
-    let start = at-change-opening.before.before.before.before.before.before.before in
-    let p = found at-change-opening.change-opening.ensures at-opened.opened.given.1 in
-    let g = got at-cases.cases.ensures.0 at_Listed.listed.given.1 in
-    let q = found at-no-change-opening.no-change-opening.ensures at_next.next.given.1 in
-    let l = at-agreeing-list.agreeing-list.ensures g.tree (told_listed _ _ _ _ _ _ at-cases.cases.ensures.1 g) in
-    let a = placed _ (found l at-agreed.agreed.given.1) in
-    let r = room_phrase {u = start.args.to} (change_opening _) (refl, (refl, (refl, (refl, tt)))) start.requires.1.0 p (omega arith) in
-    let level = level_code _ _ start.args.w.id _ r.within g.is in
-    let z = found at-formula-closing.formula-closing.ensures at-closed.closed.given.1 in
+    let p = found c.change_opening-opened.ensures c.in-Done.is in
+    let g = got c.cases-listed.ensures.0 c.in-Done-listed.is in
+    let q = found c.no_change_opening-next.ensures c.in-Done-next.is in
+    let l = c.agreeing_list-agreed.ensures g.tree (told_listed _ _ _ _ _ _ c.cases-listed.ensures.1 g) in
+    let a = placed _ (found l c.in-Done-agreed.is) in
+    let r = room_phrase {u = c.args.to} (change_opening _) (refl, (refl, (refl, (refl, tt)))) c.requires.1.0 p (omega arith) in
+    let level = level_code _ _ c.args.w.id _ r.within g.is in
+    let z = found c.formula_closing-closed.ensures c.in-Done-closed.is in
     writes c.reached.ensures (record {
-      tree = Program.change start.args.w.id (cases_of g.tree) a.tree;
+      tree = Program.change c.args.w.id (cases_of g.tree) a.tree;
       is = change_accepted _ _ _ _ p g.is q a.is z;
-      ended = change_length start.args.to start.args.w.id g.tree a.tree level g.ended c.before.before.before.put-instruction.ensures.0;
+      ended = change_length c.args.to c.args.w.id g.tree a.tree level g.ended c.put_instruction-t.ensures.0;
       tells_it = refl;
-      wrote = change_bytes start.args.out.now start.args.to start.args.w.id g.tree a.tree level g.ended g.wrote c.before.before.before.put-instruction.ensures.1;
+      wrote = change_bytes c.args.out.now c.args.to c.args.w.id g.tree a.tree level g.ended g.wrote c.put_instruction-t.ensures.1;
     })
 
 pub change_spec : {M : Type 1} → statement M

@@ -14,61 +14,42 @@ use borrow.Author.Rules.{rules}
 use Rattle.rules.proofs.formulas.formula.Statement.{statement}
 use Rattle.rules.proofs.formulas.formula.Tie as tie
 
-returns : tie.Need-returns
-returns c = not_expected c.before.before.rule-opening.ensures c.enum_told.given.1 (formula_unopened _ _ _ _)
+returns : tie.Need-returns-in_default
+returns c = not_expected c.rule_opening-opened.ensures c.in_default.is (formula_unopened _ _ _ _)
 
-returns-2 : tie.Need-returns-2
+returns-2 : tie.Need-returns-in_default-read
 returns-2 c =
-    let at-opened = c.before.before.before.before in
-    let p = found at-opened.before.before.rule-opening.ensures at-opened.opened.given.1 in
-    refuses c.enum-told2.given.1 (formula_fault _ _ _ _ p (is_fault _ _ _ c.before.before.token-at.ensures _ _ c.enum-told2.given.1))
+    let p = found c.rule_opening-opened.ensures c.in-Done.is in
+    refuses c.in_default-read.is (formula_fault _ _ _ _ p (is_fault _ _ _ c.token_at-read.ensures _ _ c.in_default-read.is))
 
 change-requires : tie.Need-change-requires
 unfolding is kind_number
 change-requires c κs =
-    let at_read = c.before.before.before.before.before.before in
-    let at-token-at = at_read.before.before in
-    let at-opened = at-token-at.before.before in
-    let at-rule-opening = at-opened.before.before in
-    let start = at-rule-opening.before.before.before.before.before.before.before in
-    let p = found at-rule-opening.rule-opening.ensures at-opened.opened.given.1 in
-    let r = room_phrase {u = start.args.to} rule_opening (refl, (refl, (refl, tt))) start.requires.1.0 p (omega arith) in
-    let t = found_token _ _ at-token-at.token-at.ensures at_read.read.given.1 in
-    (start.requires.0, (room_token r t, (start.requires.1.1.0, start.requires.1.1.1)))
+    let p = found c.rule_opening-opened.ensures c.in-Done.is in
+    let r = room_phrase {u = c.args.to} rule_opening (refl, (refl, (refl, tt))) c.requires.1.0 p (omega arith) in
+    let t = found_token _ _ c.token_at-read.ensures c.in-Done-read.is in
+    (c.requires.0, (room_token r t, (c.requires.1.1.0, c.requires.1.1.1)))
 
-returns-3 : tie.Need-returns-3
+returns-3 : tie.Need-returns-then-token-eq-TILDE
 unfolding kind_of
 returns-3 c =
-    let at-change = c.before.before.before.before.before.before in
-    let at-if1 = at-change.before.before.before.before in
-    let at_read = at-if1.before.before.before in
-    let at-token-at = at_read.before.before in
-    let at-opened = at-token-at.before.before in
-    let p = found at-opened.before.before.rule-opening.ensures at-opened.opened.given.1 in
-    let t = found_token _ _ at-token-at.token-at.ensures at_read.read.given.1 in
-    reads_as (formula_change _ _ _ _ p t.read (same_kinds _ 21 at-if1.if1.true)) at-change.change.ensures
+    let p = found c.rule_opening-opened.ensures c.in-Done.is in
+    let t = found_token _ _ c.token_at-read.ensures c.in-Done-read.is in
+    reads_as (formula_change _ _ _ _ p t.read (same_kinds _ 21 c.if-token-eq-TILDE.true)) c.change.ensures
 
 function-requires : tie.Need-function-requires
 unfolding is kind_number
 function-requires c κs =
-    let at-opened = c.before.before.before.before.before.before.before.before in
-    let at-rule-opening = at-opened.before.before in
-    let start = at-rule-opening.before.before.before.before.before.before.before in
-    let p = found at-rule-opening.rule-opening.ensures at-opened.opened.given.1 in
-    let r = room_phrase {u = start.args.to} rule_opening (refl, (refl, (refl, tt))) start.requires.1.0 p (omega arith) in
-    (start.requires.0, (r, start.requires.1.1.0))
+    let p = found c.rule_opening-opened.ensures c.in-Done.is in
+    let r = room_phrase {u = c.args.to} rule_opening (refl, (refl, (refl, tt))) c.requires.1.0 p (omega arith) in
+    (c.requires.0, (r, c.requires.1.1.0))
 
-returns-4 : tie.Need-returns-4
+returns-4 : tie.Need-returns
 unfolding kind_of
 returns-4 c =
-    let at-if1 = c.before.before.before.before in
-    let at_read = at-if1.before.before.before in
-    let at-token-at = at_read.before.before in
-    let at-opened = at-token-at.before.before in
-    let at-rule-opening = at-opened.before.before in
-    let p = found at-rule-opening.rule-opening.ensures at-opened.opened.given.1 in
-    let t = found_token _ _ at-token-at.token-at.ensures at_read.read.given.1 in
-    reads_as (formula_function _ _ _ _ p t.read (other_kinds _ _ t.lies.known_kind (omega arith) at-if1.if1.false)) c.before.before.function.ensures
+    let p = found c.rule_opening-opened.ensures c.in-Done.is in
+    let t = found_token _ _ c.token_at-read.ensures c.in-Done-read.is in
+    reads_as (formula_function _ _ _ _ p t.read (other_kinds _ _ t.lies.known_kind (omega arith) c.if-token-eq-TILDE.false)) c.function.ensures
 
 pub formula_spec : {M : Type 1} → statement M
 formula_spec =

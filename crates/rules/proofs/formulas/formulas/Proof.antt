@@ -10,35 +10,25 @@ use borrow.Author.Rules.{rules}
 use Rattle.rules.proofs.formulas.formulas.Statement.{statement}
 use Rattle.rules.proofs.formulas.formulas.Tie as tie
 
-returns : tie.Need-returns
-returns c = refuses c.enum_told.given.1 (formulas_fault _ _ _ _ (is_fault _ _ _ c.before.before.token-at.ensures _ _ c.enum_told.given.1))
+returns : tie.Need-returns-in_default
+returns c = refuses c.in_default.is (formulas_fault _ _ _ _ (is_fault _ _ _ c.token_at-read.ensures _ _ c.in_default.is))
 
 pair-requires : tie.Need-pair-requires
 pair-requires c κs =
-    let at_read = c.before.before.before.before.before.before in
-    let at-token-at = at_read.before.before in
-    let start = at-token-at.before.before.before.before.before.before.before in
-    let t = found_token _ _ at-token-at.token-at.ensures at_read.read.given.1 in
-    (start.requires.0, (room_token start.requires.1.0 t, (start.requires.1.1.0, start.requires.1.1.1.0)))
+    let t = found_token _ _ c.token_at-read.ensures c.in-Done.is in
+    (c.requires.0, (room_token c.requires.1.0 t, (c.requires.1.1.0, c.requires.1.1.1.0)))
 
-returns-2 : tie.Need-returns-2
+returns-2 : tie.Need-returns-then-token-eq-PLUS
 unfolding kind_of
 returns-2 c =
-    let at_pair = c.before.before.before.before.before.before in
-    let at-if1 = at_pair.before.before.before.before in
-    let at_read = at-if1.before.before.before in
-    let t = found_token _ _ at_read.before.before.token-at.ensures at_read.read.given.1 in
-    reads_as (formulas_pair _ _ _ _ t.read (same_kinds _ 27 at-if1.if1.true)) at_pair.pair.ensures
+    let t = found_token _ _ c.token_at-read.ensures c.in-Done.is in
+    reads_as (formulas_pair _ _ _ _ t.read (same_kinds _ 27 c.if-token-eq-PLUS.true)) c.pair.ensures
 
-returns-3 : tie.Need-returns-3
+returns-3 : tie.Need-returns
 unfolding kind_of
 returns-3 c =
-    let at-formula = c.before.before.before.before.before.before in
-    let at-if1 = at-formula.before.before.before.before in
-    let at_read = at-if1.before.before.before in
-    let at-token-at = at_read.before.before in
-    let t = found_token _ _ at-token-at.token-at.ensures at_read.read.given.1 in
-    reads_as (formulas_formula _ _ _ _ t.read (other_kinds _ _ t.lies.known_kind (omega arith) at-if1.if1.false)) at-formula.formula.ensures
+    let t = found_token _ _ c.token_at-read.ensures c.in-Done.is in
+    reads_as (formulas_formula _ _ _ _ t.read (other_kinds _ _ t.lies.known_kind (omega arith) c.if-token-eq-PLUS.false)) c.formula.ensures
 
 pub formulas_spec : {M : Type 1} → statement M
 formulas_spec =

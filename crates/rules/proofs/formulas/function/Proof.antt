@@ -15,65 +15,47 @@ use borrow.Author.Rules.{rules}
 use Rattle.rules.proofs.formulas.function.Statement.{statement}
 use Rattle.rules.proofs.formulas.function.Tie as tie
 
-returns : tie.Need-returns
-returns c = not_expected c.before.before.value-opening.ensures c.enum_told.given.1 (value_unopened _ _ _ _)
+returns : tie.Need-returns-in_default
+returns c = not_expected c.value_opening-opened.ensures c.in_default.is (value_unopened _ _ _ _)
 
-whole-expression-requires : tie.Need-whole-expression-requires
+whole-expression-requires : tie.Need-whole_expression-value-requires
 unfolding is kind_number
 whole-expression-requires c κs =
-    let at-value-opening = c.before.before.before.before in
-    let start = at-value-opening.before.before.before.before.before in
-    let p = found at-value-opening.value-opening.ensures c.before.before.opened.given.1 in
-    let r = room_phrase {u = start.args.to} (value_opening _) (refl, (refl, tt)) start.requires.1.0 p (omega arith) in
-    (start.requires.0, r)
+    let p = found c.value_opening-opened.ensures c.in-Done.is in
+    let r = room_phrase {u = c.args.to} (value_opening _) (refl, (refl, tt)) c.requires.1.0 p (omega arith) in
+    (c.requires.0, r)
 
-returns-2 : tie.Need-returns-2
+returns-2 : tie.Need-returns-in_default-value
 returns-2 c =
-    let at-whole-expression = c.before.before.before.before in
-    let at-opened = at-whole-expression.before.before.before in
-    let p = found at-opened.before.before.value-opening.ensures at-opened.opened.given.1 in
-    not_read at-whole-expression.whole-expression.ensures c.enum-told2.given.1 (value_refused _ _ _ _ p)
+    let p = found c.value_opening-opened.ensures c.in-Done.is in
+    not_read c.whole_expression-value.ensures c.in_default-value.is (value_refused _ _ _ _ p)
 
-returns-3 : tie.Need-returns-3
+returns-3 : tie.Need-returns-in_default-closed
 returns-3 c =
-    let at_value = c.before.before.before.before in
-    let at-whole-expression = at_value.before.before.before.before in
-    let at-opened = at-whole-expression.before.before.before in
-    let p = found at-opened.before.before.value-opening.ensures at-opened.opened.given.1 in
-    let v = accepted_by at-whole-expression.whole-expression.ensures at_value.value.given.1 in
-    not_expected c.before.before.function-closing.ensures c.enum-told3.given.1 (value_unclosed _ _ _ _ p v.is)
+    let p = found c.value_opening-opened.ensures c.in-Done.is in
+    let v = accepted_by c.whole_expression-value.ensures c.in-Done-value.is in
+    not_expected c.function_closing-closed.ensures c.in_default-closed.is (value_unclosed _ _ _ _ p v.is)
 
-put-instruction-requires : tie.Need-put-instruction-requires
+put-instruction-requires : tie.Need-put_instruction-t-requires
 unfolding is kind_number
 put-instruction-requires c κs =
-    let at_value = c.before.before.before.before.before.before in
-    let at-whole-expression = at_value.before.before.before.before in
-    let at-opened = at-whole-expression.before.before.before in
-    let at-value-opening = at-opened.before.before in
-    let start = at-value-opening.before.before.before.before.before in
-    let p = found at-value-opening.value-opening.ensures at-opened.opened.given.1 in
-    let r = room_phrase {u = start.args.to} (value_opening _) (refl, (refl, tt)) start.requires.1.0 p (omega arith) in
-    let v = accepted_by at-whole-expression.whole-expression.ensures at_value.value.given.1 in
-    let s = room_after r (whole_expression_grown _ (few_names _ start.requires.0) _ r.within) v in
-    (omega arith, omega (arith, start.requires.1.1))
+    let p = found c.value_opening-opened.ensures c.in-Done.is in
+    let r = room_phrase {u = c.args.to} (value_opening _) (refl, (refl, tt)) c.requires.1.0 p (omega arith) in
+    let v = accepted_by c.whole_expression-value.ensures c.in-Done-value.is in
+    let s = room_after r (whole_expression_grown _ (few_names _ c.requires.0) _ r.within) v in
+    (omega arith, omega (arith, c.requires.1.1))
 
-returns-4 : tie.Need-returns-4
+returns-4 : tie.Need-returns
 returns-4 c =
-    let at-closed = c.before.before.before.before.before.before in
-    let at-function-closing = at-closed.before.before in
-    let at_value = at-function-closing.before.before in
-    let at-whole-expression = at_value.before.before.before.before in
-    let at-opened = at-whole-expression.before.before.before in
-    let at-value-opening = at-opened.before.before in
-    let p = found at-value-opening.value-opening.ensures at-opened.opened.given.1 in
-    let v = accepted_by at-whole-expression.whole-expression.ensures at_value.value.given.1 in
-    let q = found at-function-closing.function-closing.ensures at-closed.closed.given.1 in
+    let p = found c.value_opening-opened.ensures c.in-Done.is in
+    let v = accepted_by c.whole_expression-value.ensures c.in-Done-value.is in
+    let q = found c.function_closing-closed.ensures c.in-Done-closed.is in
     writes c.reached.ensures (record {
-      tree = Program.function at-value-opening.before.before.before.before.before.args.w.id v.tree;
+      tree = Program.function c.args.w.id v.tree;
       is = function_accepted _ _ _ _ p v.is q;
-      ended = function_length _ _ _ v.count c.before.before.before.put-instruction.ensures.0;
+      ended = function_length _ _ _ v.count c.put_instruction-t.ensures.0;
       tells_it = refl;
-      wrote = function_bytes _ _ _ _ v.count v.wrote c.before.before.before.put-instruction.ensures.1;
+      wrote = function_bytes _ _ _ _ v.count v.wrote c.put_instruction-t.ensures.1;
     })
 
 pub function_spec : {M : Type 1} → statement M

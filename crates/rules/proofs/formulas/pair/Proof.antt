@@ -15,191 +15,129 @@ use borrow.Author.Rules.{rules}
 use Rattle.rules.proofs.formulas.pair.Statement.{statement}
 use Rattle.rules.proofs.formulas.pair.Tie as tie
 
-returns : tie.Need-returns
+returns : tie.Need-returns-in_default
 unfolding kind_of
-returns c = not_expected c.before.before.turned-opening.ensures c.enum_told.given.1 (pair_unopened _ _ _ _)
+returns c = not_expected c.turned_opening-opened.ensures c.in_default.is (pair_unopened _ _ _ _)
 
-cases-requires : tie.Need-cases-requires
+cases-requires : tie.Need-cases-risen-requires
 unfolding is kind_number kind_of
 cases-requires c κs =
-    let at-opened = c.before.before.before.before in
-    let at-turned-opening = at-opened.before.before in
-    let start = at-turned-opening.before.before.before.before.before.before.before in
-    let p = found at-turned-opening.turned-opening.ensures at-opened.opened.given.1 in
-    let r = room_phrase {u = start.args.to} (turned_opening greater _) (refl, (refl, (refl, (refl, (refl, tt))))) start.requires.1.0 p (omega arith) in
-    (start.requires.0, (r, (start.requires.1.1.0, (start.requires.1.1.1.in_from, start.requires.1.1.1.in_upto, omega arith))))
+    let p = found c.turned_opening-opened.ensures c.in-Done.is in
+    let r = room_phrase {u = c.args.to} (turned_opening greater _) (refl, (refl, (refl, (refl, (refl, tt))))) c.requires.1.0 p (omega arith) in
+    (c.requires.0, (r, (c.requires.1.1.0, (c.requires.1.1.1.in_from, c.requires.1.1.1.in_upto, omega arith))))
 
-returns-2 : tie.Need-returns-2
+returns-2 : tie.Need-returns-in_default-risen
 unfolding kind_of
 returns-2 c =
-    let at-cases = c.before.before.before.before.before.before.before.before in
-    let at-opened = at-cases.before.before.before.before.before in
-    let p = found at-opened.before.before.turned-opening.ensures at-opened.opened.given.1 in
-    not_part at-cases.cases.ensures.0 c.enum-told2.given.1 (ups_refused _ _ _ _ p)
+    let p = found c.turned_opening-opened.ensures c.in-Done.is in
+    not_part c.cases-risen.ensures.0 c.in_default-risen.is (ups_refused _ _ _ _ p)
 
-returns-3 : tie.Need-returns-3
+returns-3 : tie.Need-returns-in_default-next
 unfolding kind_of
 returns-3 c =
-    let at-risen = c.before.before.before.before in
-    let at-cases = at-risen.before.before.before.before.before.before.before.before in
-    let at-opened = at-cases.before.before.before.before.before in
-    let p = found at-opened.before.before.turned-opening.ensures at-opened.opened.given.1 in
-    let g = got at-cases.cases.ensures.0 at-risen.risen.given.1 in
-    not_expected c.before.before.falling-opening.ensures c.enum-told3.given.1 (falling_unopened _ _ _ _ p g.is)
+    let p = found c.turned_opening-opened.ensures c.in-Done.is in
+    let g = got c.cases-risen.ensures.0 c.in-Done-risen.is in
+    not_expected c.falling_opening-next.ensures c.in_default-next.is (falling_unopened _ _ _ _ p g.is)
 
-sub-left : tie.Need-overflow-sub-left
+sub-left : tie.Need-overflow_sub-left
 unfolding is kind_number kind_of
 sub-left c =
-    let at-risen = c.before.before.before.before.before.before in
-    let at-cases = at-risen.before.before.before.before.before.before.before.before in
-    let at-opened = at-cases.before.before.before.before.before in
-    let at-turned-opening = at-opened.before.before in
-    let start = at-turned-opening.before.before.before.before.before.before.before in
-    let p = found at-turned-opening.turned-opening.ensures at-opened.opened.given.1 in
-    let r = room_phrase {u = start.args.to} (turned_opening greater _) (refl, (refl, (refl, (refl, (refl, tt))))) start.requires.1.0 p (omega arith) in
-    let g = got at-cases.cases.ensures.0 at-risen.risen.given.1 in
+    let p = found c.turned_opening-opened.ensures c.in-Done.is in
+    let r = room_phrase {u = c.args.to} (turned_opening greater _) (refl, (refl, (refl, (refl, (refl, tt))))) c.requires.1.0 p (omega arith) in
+    let g = got c.cases-risen.ensures.0 c.in-Done-risen.is in
     omega (arith, g.tells_it, few_cases _ _ _ r.within g.is)
 
-cases-requires-2 : tie.Need-cases-requires-2
+cases-requires-2 : tie.Need-cases-fallen-requires
 unfolding is kind_number kind_of
 cases-requires-2 c κs =
-    let at_next = c.before.before.before.before.before in
-    let at-falling-opening = at_next.before.before in
-    let at-risen = at-falling-opening.before.before in
-    let at-cases = at-risen.before.before.before.before.before.before.before.before in
-    let at-opened = at-cases.before.before.before.before.before in
-    let at-turned-opening = at-opened.before.before in
-    let start = at-turned-opening.before.before.before.before.before.before.before in
-    let p = found at-turned-opening.turned-opening.ensures at-opened.opened.given.1 in
-    let r = room_phrase {u = start.args.to} (turned_opening greater _) (refl, (refl, (refl, (refl, (refl, tt))))) start.requires.1.0 p (omega arith) in
-    let g = got at-cases.cases.ensures.0 at-risen.risen.given.1 in
-    let q = found at-falling-opening.falling-opening.ensures at_next.next.given.1 in
-    let rc = room_cases _ _ _ _ _ _ case_limit (few_names _ start.requires.0) start.requires.1.1.0 r g in
-    let rq = room_phrase {u = at-risen.risen.given.0.0.to} (falling_opening _) (refl, (refl, (refl, (refl, (refl, (refl, (refl, (refl, tt)))))))) rc q (omega arith) in
-    (start.requires.0, (rq, (start.requires.1.1.0, (omega (arith, start.requires.1.1.1.in_from, at-cases.cases.auto.1.1.1.1.1.1.1.0), omega (arith, start.requires.1.1.1.in_upto, at-cases.cases.auto.1.1.1.1.1.1.1.1.0), omega arith))))
+    let p = found c.turned_opening-opened.ensures c.in-Done.is in
+    let r = room_phrase {u = c.args.to} (turned_opening greater _) (refl, (refl, (refl, (refl, (refl, tt))))) c.requires.1.0 p (omega arith) in
+    let g = got c.cases-risen.ensures.0 c.in-Done-risen.is in
+    let q = found c.falling_opening-next.ensures c.in-Done-next.is in
+    let rc = room_cases _ _ _ _ _ _ case_limit (few_names _ c.requires.0) c.requires.1.1.0 r g in
+    let rq = room_phrase {u = c.in-Done-risen.b.to} (falling_opening _) (refl, (refl, (refl, (refl, (refl, (refl, (refl, (refl, tt)))))))) rc q (omega arith) in
+    (c.requires.0, (rq, (c.requires.1.1.0, (omega (arith, c.requires.1.1.1.in_from, c.cases-risen.auto.from), omega (arith, c.requires.1.1.1.in_upto, c.cases-risen.auto.upto), omega arith))))
 
-same-length-7 : tie.Need-same-length-7
+same-length-7 : tie.Need-shape_of-from-in_default-fallen
 same-length-7 c =
-    let at-cases2 = c.before.before.before.before.before.before.before.before in
-    at-cases2.cases2.auto.1.1.1.1.1.1.1.0 ∙ at-cases2.before.before.before.before.before.before.before.before.before.before.before.before.before.before.before.before.before.before.cases.auto.1.1.1.1.1.1.1.0
+    c.cases-fallen.auto.from ∙ c.cases-risen.auto.from
 
-same-length-8 : tie.Need-same-length-8
+same-length-8 : tie.Need-shape_of-upto-in_default-fallen
 same-length-8 c =
-    let at-cases2 = c.before.before.before.before.before.before.before.before in
-    at-cases2.cases2.auto.1.1.1.1.1.1.1.1.0 ∙ at-cases2.before.before.before.before.before.before.before.before.before.before.before.before.before.before.before.before.before.before.cases.auto.1.1.1.1.1.1.1.1.0
+    c.cases-fallen.auto.upto ∙ c.cases-risen.auto.upto
 
-same-length-9 : tie.Need-same-length-9
+same-length-9 : tie.Need-shape_of-out-in_default-fallen
 same-length-9 c =
-    let at-cases2 = c.before.before.before.before.before.before.before.before in
-    at-cases2.cases2.auto.1.1.1.1.1.1.1.1.1.1.0 ∙ at-cases2.before.before.before.before.before.before.before.before.before.before.before.before.before.before.before.before.before.before.cases.auto.1.1.1.1.1.1.1.1.1.1.0
+    c.cases-fallen.auto.out ∙ c.cases-risen.auto.out
 
-returns-4 : tie.Need-returns-4
+returns-4 : tie.Need-returns-in_default-fallen
 unfolding kind_of
 returns-4 c =
-    let at-cases2 = c.before.before.before.before.before.before.before.before in
-    let at_next = at-cases2.before.before.before.before.before.before in
-    let at-falling-opening = at_next.before.before in
-    let at-risen = at-falling-opening.before.before in
-    let at-cases = at-risen.before.before.before.before.before.before.before.before in
-    let at-opened = at-cases.before.before.before.before.before in
-    let p = found at-opened.before.before.turned-opening.ensures at-opened.opened.given.1 in
-    let g = got at-cases.cases.ensures.0 at-risen.risen.given.1 in
-    let q = found at-falling-opening.falling-opening.ensures at_next.next.given.1 in
-    not_part at-cases2.cases2.ensures.0 c.enum-told4.given.1 (downs_refused _ _ _ _ p g.is q g.tells_it)
+    let p = found c.turned_opening-opened.ensures c.in-Done.is in
+    let g = got c.cases-risen.ensures.0 c.in-Done-risen.is in
+    let q = found c.falling_opening-next.ensures c.in-Done-next.is in
+    not_part c.cases-fallen.ensures.0 c.in_default-fallen.is (downs_refused _ _ _ _ p g.is q g.tells_it)
 
-same-length-10 : tie.Need-same-length-10
+same-length-10 : tie.Need-shape_of-from-in_default-closed
 same-length-10 c =
-    let at-cases2 = c.before.before.before.before.before.before.before.before.before.before.before.before in
-    at-cases2.cases2.auto.1.1.1.1.1.1.1.0 ∙ at-cases2.before.before.before.before.before.before.before.before.before.before.before.before.before.before.before.before.before.before.cases.auto.1.1.1.1.1.1.1.0
+    c.cases-fallen.auto.from ∙ c.cases-risen.auto.from
 
-same-length-11 : tie.Need-same-length-11
+same-length-11 : tie.Need-shape_of-upto-in_default-closed
 same-length-11 c =
-    let at-cases2 = c.before.before.before.before.before.before.before.before.before.before.before.before in
-    at-cases2.cases2.auto.1.1.1.1.1.1.1.1.0 ∙ at-cases2.before.before.before.before.before.before.before.before.before.before.before.before.before.before.before.before.before.before.cases.auto.1.1.1.1.1.1.1.1.0
+    c.cases-fallen.auto.upto ∙ c.cases-risen.auto.upto
 
-same-length-12 : tie.Need-same-length-12
+same-length-12 : tie.Need-shape_of-out-in_default-closed
 same-length-12 c =
-    let at-cases2 = c.before.before.before.before.before.before.before.before.before.before.before.before in
-    at-cases2.cases2.auto.1.1.1.1.1.1.1.1.1.1.0 ∙ at-cases2.before.before.before.before.before.before.before.before.before.before.before.before.before.before.before.before.before.before.cases.auto.1.1.1.1.1.1.1.1.1.1.0
+    c.cases-fallen.auto.out ∙ c.cases-risen.auto.out
 
-returns-5 : tie.Need-returns-5
+returns-5 : tie.Need-returns-in_default-closed
 unfolding kind_of
 returns-5 c =
-    let at-fallen = c.before.before.before.before in
-    let at-cases2 = at-fallen.before.before.before.before.before.before.before.before in
-    let at_next = at-cases2.before.before.before.before.before.before in
-    let at-falling-opening = at_next.before.before in
-    let at-risen = at-falling-opening.before.before in
-    let at-cases = at-risen.before.before.before.before.before.before.before.before in
-    let at-opened = at-cases.before.before.before.before.before in
-    let p = found at-opened.before.before.turned-opening.ensures at-opened.opened.given.1 in
-    let g = got at-cases.cases.ensures.0 at-risen.risen.given.1 in
-    let q = found at-falling-opening.falling-opening.ensures at_next.next.given.1 in
-    let h = got at-cases2.cases2.ensures.0 at-fallen.fallen.given.1 in
-    not_expected c.before.before.formula-closing.ensures c.enum-told5.given.1 (pair_unclosed _ _ _ _ p g.is q g.tells_it h.is)
+    let p = found c.turned_opening-opened.ensures c.in-Done.is in
+    let g = got c.cases-risen.ensures.0 c.in-Done-risen.is in
+    let q = found c.falling_opening-next.ensures c.in-Done-next.is in
+    let h = got c.cases-fallen.ensures.0 c.in-Done-fallen.is in
+    not_expected c.formula_closing-closed.ensures c.in_default-closed.is (pair_unclosed _ _ _ _ p g.is q g.tells_it h.is)
 
-put-instruction-requires : tie.Need-put-instruction-requires
+put-instruction-requires : tie.Need-put_instruction-t-requires
 unfolding is kind_number kind_of
 put-instruction-requires c κs =
-    let at-fallen = c.before.before.before.before.before.before in
-    let at-cases2 = at-fallen.before.before.before.before.before.before.before.before in
-    let at_next = at-cases2.before.before.before.before.before.before in
-    let at-falling-opening = at_next.before.before in
-    let at-risen = at-falling-opening.before.before in
-    let at-cases = at-risen.before.before.before.before.before.before.before.before in
-    let at-opened = at-cases.before.before.before.before.before in
-    let at-turned-opening = at-opened.before.before in
-    let start = at-turned-opening.before.before.before.before.before.before.before in
-    let p = found at-turned-opening.turned-opening.ensures at-opened.opened.given.1 in
-    let r = room_phrase {u = start.args.to} (turned_opening greater _) (refl, (refl, (refl, (refl, (refl, tt))))) start.requires.1.0 p (omega arith) in
-    let g = got at-cases.cases.ensures.0 at-risen.risen.given.1 in
-    let q = found at-falling-opening.falling-opening.ensures at_next.next.given.1 in
-    let rc = room_cases _ _ _ _ _ _ case_limit (few_names _ start.requires.0) start.requires.1.1.0 r g in
-    let rq = room_phrase {u = at-risen.risen.given.0.0.to} (falling_opening _) (refl, (refl, (refl, (refl, (refl, (refl, (refl, (refl, tt)))))))) rc q (omega arith) in
-    let h = got at-cases2.cases2.ensures.0 at-fallen.fallen.given.1 in
-    let rd = room_cases _ _ _ _ _ _ _ (few_names _ start.requires.0) start.requires.1.1.0 rq h in
-    (omega arith, omega (arith, start.requires.1.1.0))
+    let p = found c.turned_opening-opened.ensures c.in-Done.is in
+    let r = room_phrase {u = c.args.to} (turned_opening greater _) (refl, (refl, (refl, (refl, (refl, tt))))) c.requires.1.0 p (omega arith) in
+    let g = got c.cases-risen.ensures.0 c.in-Done-risen.is in
+    let q = found c.falling_opening-next.ensures c.in-Done-next.is in
+    let rc = room_cases _ _ _ _ _ _ case_limit (few_names _ c.requires.0) c.requires.1.1.0 r g in
+    let rq = room_phrase {u = c.in-Done-risen.b.to} (falling_opening _) (refl, (refl, (refl, (refl, (refl, (refl, (refl, (refl, tt)))))))) rc q (omega arith) in
+    let h = got c.cases-fallen.ensures.0 c.in-Done-fallen.is in
+    let rd = room_cases _ _ _ _ _ _ _ (few_names _ c.requires.0) c.requires.1.1.0 rq h in
+    (omega arith, omega (arith, c.requires.1.1.0))
 
-same-length-13 : tie.Need-same-length-13
+same-length-13 : tie.Need-shape_of-from
 same-length-13 c =
-    let at-cases2 = c.before.before.before.before.before.before.before.before.before.before.before.before.before.before.before.before.before.before in
-    at-cases2.cases2.auto.1.1.1.1.1.1.1.0 ∙ at-cases2.before.before.before.before.before.before.before.before.before.before.before.before.before.before.before.before.before.before.cases.auto.1.1.1.1.1.1.1.0
+    c.cases-fallen.auto.from ∙ c.cases-risen.auto.from
 
-same-length-14 : tie.Need-same-length-14
+same-length-14 : tie.Need-shape_of-upto
 same-length-14 c =
-    let at-cases2 = c.before.before.before.before.before.before.before.before.before.before.before.before.before.before.before.before.before.before in
-    at-cases2.cases2.auto.1.1.1.1.1.1.1.1.0 ∙ at-cases2.before.before.before.before.before.before.before.before.before.before.before.before.before.before.before.before.before.before.cases.auto.1.1.1.1.1.1.1.1.0
+    c.cases-fallen.auto.upto ∙ c.cases-risen.auto.upto
 
-same-length-15 : tie.Need-same-length-15
+same-length-15 : tie.Need-shape_of-out
 same-length-15 c =
-    let at-cases2 = c.before.before.before.before.before.before.before.before.before.before.before.before.before.before.before.before.before.before in
-    c.before.before.before.put-instruction.auto.0 ∙ (at-cases2.cases2.auto.1.1.1.1.1.1.1.1.1.1.0 ∙ at-cases2.before.before.before.before.before.before.before.before.before.before.before.before.before.before.before.before.before.before.cases.auto.1.1.1.1.1.1.1.1.1.1.0)
+    c.put_instruction-t.auto.out ∙ (c.cases-fallen.auto.out ∙ c.cases-risen.auto.out)
 
-returns-6 : tie.Need-returns-6
+returns-6 : tie.Need-returns
 unfolding kind_of
 returns-6 c =
-    let at-closed = c.before.before.before.before.before.before in
-    let at-formula-closing = at-closed.before.before in
-    let at-fallen = at-formula-closing.before.before in
-    let at-cases2 = at-fallen.before.before.before.before.before.before.before.before in
-    let at_next = at-cases2.before.before.before.before.before.before in
-    let at-falling-opening = at_next.before.before in
-    let at-risen = at-falling-opening.before.before in
-    let at-cases = at-risen.before.before.before.before.before.before.before.before in
-    let at-opened = at-cases.before.before.before.before.before in
-    let at-turned-opening = at-opened.before.before in
-    let start = at-turned-opening.before.before.before.before.before.before.before in
-    let p = found at-turned-opening.turned-opening.ensures at-opened.opened.given.1 in
-    let g = got at-cases.cases.ensures.0 at-risen.risen.given.1 in
-    let q = found at-falling-opening.falling-opening.ensures at_next.next.given.1 in
-    let h = got at-cases2.cases2.ensures.0 at-fallen.fallen.given.1 in
-    let z = found at-formula-closing.formula-closing.ensures at-closed.closed.given.1 in
+    let p = found c.turned_opening-opened.ensures c.in-Done.is in
+    let g = got c.cases-risen.ensures.0 c.in-Done-risen.is in
+    let q = found c.falling_opening-next.ensures c.in-Done-next.is in
+    let h = got c.cases-fallen.ensures.0 c.in-Done-fallen.is in
+    let z = found c.formula_closing-closed.ensures c.in-Done-closed.is in
     writes c.reached.ensures (record {
-      tree = pair_rule start.args.w.id (cases_of g.tree) (cases_of h.tree);
+      tree = pair_rule c.args.w.id (cases_of g.tree) (cases_of h.tree);
       is = pair_accepted _ _ _ _ p g.is q g.tells_it h.is z;
-      ended = pair_ended start.args.to start.args.w.id g.tree h.tree g.ended h.ended c.before.before.before.put-instruction.ensures.0;
+      ended = pair_ended c.args.to c.args.w.id g.tree h.tree g.ended h.ended c.put_instruction-t.ensures.0;
       tells_it = refl;
-      wrote = pair_written start.args.out.now start.args.to start.args.w.id g.tree h.tree g.ended g.wrote h.ended h.wrote c.before.before.before.put-instruction.ensures.1;
+      wrote = pair_written c.args.out.now c.args.to c.args.w.id g.tree h.tree g.ended g.wrote h.ended h.wrote c.put_instruction-t.ensures.1;
     })
 
 pub pair_spec : {M : Type 1} → statement M
