@@ -212,7 +212,7 @@ class File:
         quiet = [(m.start(), m.end()) for m in re.finditer(r"--[^\n]*", text)]
         for m in path.finditer(text):
             v = m[1]
-            if v not in vars or any(a <= m.start() < b for a, b in quiet):
+            if v not in vars or text[: m.start()].endswith("let ") or any(a <= m.start() < b for a, b in quiet):
                 continue
             f, root, start, q, prefix = vars[v]
             fields = [x for x in m[2].split(".") if x]
@@ -410,9 +410,10 @@ class File:
                 if j < k and fits(args[i], needs[j]):
                     s = go(i + 1, j + 1)
                     if s:
-                        r = (s[0], [needs[j], *s[1]])
-                if j == 0 and (r is None or True):
-                    s = go(i + 1, 0) if not args[i].startswith("(λ") else None
+                        odd = re.match(r"\(λ \w+\.", args[i]) and "requires" in needs[j]
+                        r = (s[0] + 0.4 * bool(odd), [needs[j], *s[1]])
+                if j == 0:
+                    s = go(i + 1, 0) if not args[i].startswith("(λ") and args[i] not in self.answers else None
                     if s and (r is None or s[0] < r[0]):
                         r = (s[0], [None, *s[1]])
                 if re.fullmatch(r"\(λ \w+( κs)?\. (search rules|omega arith)\)", args[i]):

@@ -185,10 +185,12 @@ pub data ◌∈◌ {A : Type 0} (a : A) : List A → Type 0 where
   there : {b : A} {l : List A} → a ∈ l → a ∈ (b ∷ l)
 
 pub all_in : {A : Type 0} (P : A → Type 0) (a : A) (l : List A) → All P l → a ∈ l → P a
+all_in {A = A} P a [] h m = elim m [ ]
 all_in P a (b ∷ l) h here = h.0
 all_in P a (b ∷ l) h (there m) = all_in P a l h.1 m
 
 in_first : {A : Type 0} (a : A) (l m : List A) → a ∈ l → a ∈ (l ++ m)
+in_first {A = A} a [] m i = elim i [ ]
 in_first a (b ∷ l) m here = here
 in_first a (b ∷ l) m (there i) = there (in_first a l m i)
 
@@ -197,10 +199,12 @@ in_second a [] m i = i
 in_second a (b ∷ l) m i = there (in_second a l m i)
 
 in_map : {A B : Type 0} (f : A → B) (a : A) (l : List A) → a ∈ l → f a ∈ map f l
+in_map {A = A} {B = B} f a [] i = elim i [ ]
 in_map f a (b ∷ l) here = here
 in_map f a (b ∷ l) (there i) = there (in_map f a l i)
 
 in_prefixed : (z : ℤ) (zs s : List ℤ) (ls : List (List ℤ)) → z ∈ zs → s ∈ ls → (z ∷ s) ∈ prefixed zs ls
+in_prefixed z [] s ls i j = elim i [ ]
 in_prefixed z (y ∷ zs) s ls here j = in_first (z ∷ s) (map (λ l. z ∷ l) ls) (prefixed zs ls) (in_map (λ l. z ∷ l) s ls j)
 in_prefixed z (y ∷ zs) s ls (there i) j = in_second (z ∷ s) (map (λ l. y ∷ l) ls) (prefixed zs ls) (in_prefixed z zs s ls i j)
 
@@ -226,5 +230,6 @@ combinations_complete (n ∷ ns) (z ∷ s) w =
     (combinations_complete ns s (record { size = q; ranges = and_right (within n z) (all_within ns s) w.ranges }))
 
 pub in_paired : (s : State) (r : List ℤ) (ss : List State) (rs : List (List ℤ)) → s ∈ ss → r ∈ rs → record { state = s; row = r } ∈ paired ss rs
+in_paired s r [] rs i j = elim i [ ]
 in_paired s r (t ∷ ss) rs here j = in_first _ (with_rows s rs) (paired ss rs) (in_map (λ x. record { state = s; row = x }) r rs j)
 in_paired s r (t ∷ ss) rs (there i) j = in_second _ (with_rows t rs) (paired ss rs) (in_paired s r ss rs i j)

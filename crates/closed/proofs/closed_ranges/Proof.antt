@@ -59,7 +59,8 @@ walk-requires c κs =
 
 returns-3 : tie.Need-returns-in_default
 returns-3 c =
-    let c.before.before.before.before.before.before.before.before.before.before.before.before = c in (
+    let at-behind = c in
+    let at-behind = c in (
       λ ns r. let z = sized_by c.before.before.before.before.before.before.before.before.before.before.before.before ns r in let n = ends_at c.before.before.before.before.before.before.before.before.before.before ns r in closed_through ns c.args.inputs c.args.code.now c.args.first c.args.most c.args.state.now c.args.row.now z.small c.behind-end.result (begins_among c.before.before.before.before.before.before.before.before.before.before.before ns r) n c.walk-ended.result c.walk-ended.new.state c.walk-ended.new.row
           (c.walk-ended.ensures.0 ns (take c.args.inputs ns) r (ranges_taken c.args.inputs ns _ _ r) z.second (omega (arith, n))) c.in_default.is,
       tt,
@@ -75,7 +76,8 @@ fill-requires-2 c κs =
 
 returns-4 : tie.Need-returns
 returns-4 c =
-    let c.before.before.before.before.before.before.before.before.before.before.before.before.before.before.before.before.before.before.before.before = c in (
+    let at-behind = c in
+    let at-behind = c in (
       λ ns r.
           let z = sized_by c.before.before.before.before.before.before.before.before.before.before.before.before.before.before.before.before.before.before ns r in
           let n = ends_at c.before.before.before.before.before.before.before.before.before.before.before.before.before.before.before.before ns r in

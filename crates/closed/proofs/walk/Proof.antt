@@ -119,8 +119,8 @@ left : (c : tie.Left-states invariant_loop decreases_loop invariant-states decre
     → Walking c.args.low.now c.args.high.now c.args.row_low.now c.args.row_high.now c.states.state c.states-test.row c.states-test.work c.states-test.vals
 left c =
     ⊎_elim
-    (λ w. walking_kept refl (ap length w.1) (ap length w.2) (ap length w.3) c.states.invariant.memory)
-    (λ w. let k = w.8.kept in walking_kept refl (ap length w.12) (ap length w.13 ∙ k.1.1.1.1.1.0) (ap length w.14 ∙ k.1.1.1.1.1.1.0) w.2.inv.memory)
+    (λ w. walking_kept refl (ap length w.row-is) (ap length w.work-is) (ap length w.vals-is) c.states.invariant.memory)
+    (λ w. let k = w.is_refused.auto in walking_kept refl (ap length w.row-is) (ap length w.work-is ∙ k.work) (ap length w.vals-is ∙ k.vals) w.loop-done.invariant.memory)
     c.states-test.branch-raw
 
 same_length : tie.Need-shape_of-state-then-done-end invariant_loop decreases_loop invariant-states decreases-states
@@ -143,12 +143,12 @@ same-length-4 c =
 returns : tie.Need-returns-then-done-end invariant_loop decreases_loop invariant-states decreases-states
 returns c =
     ⊎_elim
-    (λ w. let b : ⊥ = omega (arith, w.0.left, w.4, c.if-done-end.true) in absurd b)
+    (λ w. let b : ⊥ = omega (arith, w.states-test.false, w.done-is, c.if-done-end.true) in absurd b)
     (λ w. (
       λ ns is r q e f.
-          rw (w.12, w.15)
-          (inner_stops (working ns c.args.code.now) ns is c.args.rows c.args.first c.args.end e c.states.i w.2.done c.states.state w.2.row ((c.states.invariant.whole ns is r q e f).state_at_lem w.0.taken) (w.2.inv.whole ns is r q e f) w.2.inv.begun
-          (omega (arith, w.3.taken, w.1.ensures)) (omega (arith, w.3.taken, w.1.ensures)) (sym w.11.taken ∙ w.8.ensures ns r)),
+          rw (w.row-is, w.done-is)
+          (inner_stops (working ns c.args.code.now) ns is c.args.rows c.args.first c.args.end e c.states.i w.loop-done.done c.states.state w.loop-done.row ((c.states.invariant.whole ns is r q e f).state_at_lem w.states-test.true) (w.loop-done.invariant.whole ns is r q e f) w.loop-done.invariant.begun
+          (omega (arith, w.loop-done-test.true, w.behind-stop.ensures)) (omega (arith, w.loop-done-test.true, w.behind-stop.ensures)) (sym w.if-is_refused.true ∙ w.is_refused.ensures ns r)),
       omega (arith, c.if-done-end.true, c.requires.1.2),
     ))
     c.states-test.branch-raw
@@ -172,8 +172,8 @@ same-length-8 c =
 returns-2 : tie.Need-returns invariant_loop decreases_loop invariant-states decreases-states
 returns-2 c =
     ⊎_elim
-    (λ w. (λ ns is r q e f. outer_ends (working ns c.args.code.now) ns is c.args.rows c.args.first c.args.end e c.states.i c.states.done c.states.state c.states.row (c.states.invariant.whole ns is r q e f) w.0.left, tt))
-    (λ w. let b : ⊥ = omega (arith, w.15, w.3.taken, w.1.ensures, c.if-done-end.false) in absurd b)
+    (λ w. (λ ns is r q e f. outer_ends (working ns c.args.code.now) ns is c.args.rows c.args.first c.args.end e c.states.i c.states.done c.states.state c.states.row (c.states.invariant.whole ns is r q e f) w.states-test.false, tt))
+    (λ w. let b : ⊥ = omega (arith, w.done-is, w.loop-done-test.true, w.behind-stop.ensures, c.if-done-end.false) in absurd b)
     c.states-test.branch-raw
 
 pub walk_spec : {M : Type 1} → statement M

@@ -12,5 +12,5 @@ returns c = fronts_then (fronts_then (fronts_then (fronts_then c.bytes_before-en
 pub saving_before_spec : {M : Type 1} → statement M
 saving_before_spec =
     tie.close
-    (tie.spec (λ c. search rules) (λ c κs. search rules) (λ c κs. search rules) (λ c. search rules) (λ c κs. search rules)
+    (tie.spec (λ c κs. search rules) (λ c κs. search rules) (λ c κs. search rules) (λ c κs. search rules) (λ c κs. search rules)
     (λ c. search rules) returns)
