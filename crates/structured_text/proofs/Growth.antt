@@ -94,7 +94,7 @@ comparison_room w o D.ComparisonSign.differs = omega arith
 comparison_room w o D.ComparisonSign.below = omega arith
 comparison_room w o D.ComparisonSign.at_most = omega arith
 comparison_room w o D.ComparisonSign.above = omega arith
-comparison_room w o D.ComparisonSign.at_least_lem = omega arith
+comparison_room w o D.ComparisonSign.at_least = omega arith
 
 -- of names that are as long as the tokens that spell them
 module _ (ws names : List Identifier) (sized : (i : ℕ) (w : List ℕ) → get_elem? names i ≡ some w → (length (name_at ws i) ≡ length w) × (1 ≤ length w)) where

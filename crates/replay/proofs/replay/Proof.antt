@@ -11,33 +11,26 @@ use borrow.Author.Rules.{rules}
 use Rattle.replay.proofs.replay.Statement.{statement}
 use Rattle.replay.proofs.replay.Tie as tie
 
-slice-reshare-prefix-replay-image : tie.Need-slice-reshare-prefix-replay-image
+slice-reshare-prefix-replay-image : tie.Need-slice_bounds-replay_image-end
 slice-reshare-prefix-replay-image c =
-    let at-translate = c.before.before.before.before.before in
-    image_inside _ _ _ _ (ap (λ (r : Translated). after_translation r at-translate.translate.new.1.0) (sym c.before.translated2.given.1) ∙ at-translate.translate.ensures.0)
+    image_inside _ _ _ _ (ap (λ (r : Translated). after_translation r c.translate-translated.new.image) (sym c.in-Image.is) ∙ c.translate-translated.ensures.0)
 
-slice-aggregate-replay-image : tie.Need-slice-aggregate-replay-image
+slice-aggregate-replay-image : tie.Need-slice_bounds-replay_image-end-in-Image
 slice-aggregate-replay-image c =
-    let at-translate = c.before.before.before.before.before.before in
-    sym (length-take-le _ _ (image_inside _ _ _ _ (ap (λ (r : Translated). after_translation r at-translate.translate.new.1.0) (sym c.before.before.translated2.given.1) ∙ at-translate.translate.ensures.0)))
+    sym (length-take-le _ _ (image_inside _ _ _ _ (ap (λ (r : Translated). after_translation r c.translate-translated.new.image) (sym c.in-Image.is) ∙ c.translate-translated.ensures.0)))
 
-returns : tie.Need-returns
+returns : tie.Need-returns-in-Refused
 returns c =
-    let at-translate = c.before.before.before.before.before in
-    let start = at-translate.before.before.before.before.before.before.before in
-    let a = start.args in
-    (text_refused _ _ _ a.cells.now a.lengths.now _ _ _ _ _ _ (ap (λ (r : Translated). after_translation r at-translate.translate.new.1.0) (sym c.before.translated.given.1) ∙ at-translate.translate.ensures.0), (tt, omega (arith, subst TranslatedWithin c.before.translated.given.1 at-translate.translate.ensures.1)))
+    let a = c.args in
+    (text_refused _ _ _ a.cells.now a.lengths.now _ _ _ _ _ _ (ap (λ (r : Translated). after_translation r c.translate-translated.new.image) (sym c.in-Refused.is) ∙ c.translate-translated.ensures.0), (tt, omega (arith, subst TranslatedWithin c.in-Refused.is c.translate-translated.ensures.1)))
 
-returns-2 : tie.Need-returns-2
+returns-2 : tie.Need-returns-in-Image
 returns-2 c =
-    let at-replay-image = c.before.before.before.before.before.before in
-    let at-translated2 = at-replay-image.before.before.before.before.before.before.before in
-    let at-translate = at-translated2.before.before.before.before in
-    let a = at-translate.before.before.before.before.before.before.before.args in
-    let r = at-replay-image.replay-image in
-    let image = at-translate.translate.new.1.0 in
+    let a = c.args in
+    let r = c.replay_image in
+    let image = c.translate-translated.new.image in
     let replayed = text_replayed _ _ image a.cells.now a.lengths.now a.state.now a.numbers.now a.steps.now a.trace.now _ r.result _ _ _ _
-    (ap (λ (r : Translated). after_translation r at-translate.translate.new.1.0) (sym at-translated2.translated2.given.1) ∙ at-translate.translate.ensures.0) (r.ensures.0 image) in
+    (ap (λ (r : Translated). after_translation r c.translate-translated.new.image) (sym c.in-Image.is) ∙ c.translate-translated.ensures.0) (r.ensures.0 image) in
     (replayed, (replay_shown _ _ _ _ r.result _ replayed, r.ensures.1))
 
 pub replay_spec : {M : Type 1} → statement M

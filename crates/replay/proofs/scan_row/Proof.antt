@@ -7,23 +7,23 @@ use borrow.Author.Rules.{rules}
 use Rattle.replay.proofs.scan_row.Statement.{statement}
 use Rattle.replay.proofs.scan_row.Tie as tie
 
-scan-known-requires : tie.Need-scan-known-requires
-scan-known-requires c κs = (c.before.before.before.before.before.before.before.before.before.before.requires.1.image_known, (c.before.before.before.before.before.before.before.before.before.before.requires.1.copies, c.before.before.before.before.before.before.before.before.before.before.requires.1.stack))
+scan-known-requires : tie.Need-scan_known-scanned-requires
+scan-known-requires c κs = (c.requires.1.image_known, (c.requires.1.copies, c.requires.1.stack))
 
-store-requires : tie.Need-store-requires
-store-requires c κs = c.before.before.before.before.before.before.before.before.before.before.before.before.before.before.before.before.before.before.before.before.before.before.before.before.before.before.before.requires.0.place
+store-requires : tie.Need-store-added-requires
+store-requires c κs = c.requires.0.place
 
-returns : tie.Need-returns
+returns : tie.Need-returns-in-Done
 returns c =
-    let a = c.before.before.before.before.before.before.before.before.before.before.before.before.before.before.before.before.before.before.before.before.before.before.before.before.before.before.before.before.before.args in
-    row_done _ a.cells.now a.lengths.now a.cursor c.before.before.before.before.before.before.before.before.before.before.before.before.before.before.before.before.before.before.before.before.before.before.before.behind.result _ _ _ _ _ _ _ c.before.before.before.before.before.before.before.before.before.before.before.before.before.before.before.before.before.before.before.before.before.before.before.behind.ensures _ _ _
-    (ap (λ (r : Scanned). after_scan r c.before.before.before.before.before.before.before.before.before.before.before.before.before.before.before.before.before.before.scan-known.new.1.1.0) (sym c.before.before.before.before.before.before.before.before.before.before.before.before.before.scanned.given.1) ∙ c.before.before.before.before.before.before.before.before.before.before.before.before.before.before.before.before.before.before.scan-known.ensures.0) c.before.before.before.before.before.before.before.before.before.before.store-number.ensures c.before.before.before.before.before.before.store-steps.ensures c.before.store.ensures.1 c.before.store.ensures.0
+    let a = c.args in
+    row_done _ a.cells.now a.lengths.now a.cursor c.behind-end.result _ _ _ _ _ _ _ c.behind-end.ensures _ _ _
+    (ap (λ (r : Scanned). after_scan r c.scan_known-scanned.new.state) (sym c.in-Done.is) ∙ c.scan_known-scanned.ensures.0) c.store_number.ensures c.store_steps.ensures c.store-added.ensures.1 c.store-added.ensures.0
 
-returns-2 : tie.Need-returns-2
+returns-2 : tie.Need-returns-in-Refused
 returns-2 c =
-    let a = c.before.before.before.before.before.before.before.before.before.before.before.before.before.before.before.before.before.before.before.before.before.before.before.before.before.args in
-    row_refused _ a.cells.now a.lengths.now a.cursor c.before.before.before.before.before.before.before.before.before.before.before.before.before.before.before.before.before.before.before.behind.result _ _ _ _ _ _ _ c.before.before.before.before.before.before.before.before.before.before.before.before.before.before.before.before.before.before.before.behind.ensures _ _ _
-    (ap (λ (r : Scanned). after_scan r c.before.before.before.before.before.before.before.before.before.before.before.before.before.before.scan-known.new.1.1.0) (sym c.before.before.before.before.before.before.before.before.before.scanned2.given.1) ∙ c.before.before.before.before.before.before.before.before.before.before.before.before.before.before.scan-known.ensures.0) c.before.before.before.before.before.before.store-number2.ensures c.before.before.store-steps2.ensures c.before.before.before.before.before.before.before.before.before.before.before.before.before.before.before.before.before.before.before.before.before.before.before.before.before.requires.0.place
+    let a = c.args in
+    row_refused _ a.cells.now a.lengths.now a.cursor c.behind-end.result _ _ _ _ _ _ _ c.behind-end.ensures _ _ _
+    (ap (λ (r : Scanned). after_scan r c.scan_known-scanned.new.state) (sym c.in-Refused.is) ∙ c.scan_known-scanned.ensures.0) c.store_number-in-Refused.ensures c.store_steps-in-Refused.ensures c.requires.0.place
 
 pub scan_row_spec : {M : Type 1} → statement M
 scan_row_spec =

@@ -6,4 +6,4 @@ use Rattle.replay.proofs.store_number.Statement.{statement}
 use Rattle.replay.proofs.store_number.Tie as tie
 
 pub store_number_spec : {M : Type 1} → statement M
-store_number_spec = tie.close (tie.spec (λ c. search rules) (λ c. search rules) (λ c. search rules) (λ c. sym (set_out _ _ _ c.if1.false)))
+store_number_spec = tie.close (tie.spec (λ c. search rules) (λ c. search rules) (λ c. search rules) (λ c. sym (set_out _ _ _ c.if-i-numbers.false)))

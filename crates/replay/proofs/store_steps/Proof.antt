@@ -6,4 +6,4 @@ use Rattle.replay.proofs.store_steps.Statement.{statement}
 use Rattle.replay.proofs.store_steps.Tie as tie
 
 pub store_steps_spec : {M : Type 1} → statement M
-store_steps_spec = tie.close (tie.spec (λ c. search rules) (λ c. search rules) (λ c. search rules) (λ c. search rules) (λ c. sym (set_out _ _ _ c.if1.false)))
+store_steps_spec = tie.close (tie.spec (λ c. search rules) (λ c. search rules) (λ c. search rules) (λ c. search rules) (λ c. sym (set_out _ _ _ c.if-i-steps.false)))

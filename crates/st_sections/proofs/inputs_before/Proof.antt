@@ -20,4 +20,4 @@ returns-2 c =
 pub inputs_before_spec : {M : Type 1} → statement M
 inputs_before_spec =
     tie.close
-    (tie.spec returns (λ c. search rules) (λ c κs. search rules) (λ c κs. search rules) (λ c κs. search rules) (λ c. search rules) returns-2)
+    (tie.spec returns (λ c κs. search rules) (λ c κs. search rules) (λ c κs. search rules) (λ c. search rules) returns-2)

@@ -7,11 +7,11 @@ use Rattle.structured_text.proofs.Service.{mirror_prepared}
 use Rattle.structured_text.proofs.write_code.Statement.{statement}
 use Rattle.structured_text.proofs.write_code.Tie as tie
 
-slice-aggregate-write-mirrored : tie.Need-slice-aggregate-write-mirrored
-slice-aggregate-write-mirrored c = sym (length-take-le _ _ (omega (arith, c.before.before.before.before.before.before.before.before.before.before.before.before.requires.1, c.before.before.before.before.mirror.auto.1.0)))
+slice-aggregate-write-mirrored : tie.Need-slice_bounds-write_mirrored-end-2
+slice-aggregate-write-mirrored c = sym (length-take-le _ _ (omega (arith, c.requires.1, c.mirror.auto.out)))
 
-write-mirrored-requires : tie.Need-write-mirrored-requires
-write-mirrored-requires c κs = mirror_prepared c.before.before.before.before.before.before.before.before.before.before.before.before.requires.0 _ c.before.before.before.before.mirror.ensures
+write-mirrored-requires : tie.Need-write_mirrored-requires
+write-mirrored-requires c κs = mirror_prepared c.requires.0 _ c.mirror.ensures
 
 pub write_code_spec : {M : Type 1} → statement M
 write_code_spec = tie.close (tie.spec (λ c κs. search rules) (λ c. search rules) slice-aggregate-write-mirrored write-mirrored-requires (λ c. search rules) (λ c. search rules) (λ c. search rules))

@@ -7,19 +7,19 @@ use Rattle.structured_text.proofs.Service.{fault_passed, compiled, image_room_le
 use Rattle.structured_text.proofs.write_in.Statement.{statement}
 use Rattle.structured_text.proofs.write_in.Tie as tie
 
-slice-reshare-prefix-write-image : tie.Need-slice-reshare-prefix-write-image
-slice-reshare-prefix-write-image c = image_room_lem _ _ _ _ _ c.before.before.before.before.before.before.before.before.before.before.before.before.before.before.before.before.before.before.before.before.before.requires.0.0 c.before.before.before.before.before.before.before.before.before.before.before.before.before.descend.ensures _ c.before.before.before.before.before.before.before.before.before.before.before.before.before.before.before.before.before.before.before.before.before.requires.0.1 c.before.before.before.before.before.before.before.read.given.1
+slice-reshare-prefix-write-image : tie.Need-slice_bounds-write_image-end-in-Done-5
+slice-reshare-prefix-write-image c = image_room_lem _ _ _ _ _ c.requires.0.0 c.descend-read.ensures _ c.requires.0.1 c.in-Done.is
 
-slice-aggregate-write-image-6 : tie.Need-slice-aggregate-write-image-6
-slice-aggregate-write-image-6 c = sym (length-take-le _ _ (image_room_lem _ _ _ _ _ c.before.before.before.before.before.before.before.before.before.before.before.before.before.before.before.before.before.before.before.before.before.before.requires.0.0 c.before.before.before.before.before.before.before.before.before.before.before.before.before.before.descend.ensures _ c.before.before.before.before.before.before.before.before.before.before.before.before.before.before.before.before.before.before.before.before.before.before.requires.0.1 c.before.before.before.before.before.before.before.before.read.given.1))
+slice-aggregate-write-image-6 : tie.Need-slice_bounds-write_image-end-in-Done-6
+slice-aggregate-write-image-6 c = sym (length-take-le _ _ (image_room_lem _ _ _ _ _ c.requires.0.0 c.descend-read.ensures _ c.requires.0.1 c.in-Done.is))
 
-write-image-requires : tie.Need-write-image-requires
+write-image-requires : tie.Need-write_image-requires
 write-image-requires c κs =
-    let room = image_room_lem _ _ _ _ _ c.before.before.before.before.before.before.before.before.before.before.before.before.before.before.before.before.before.before.before.before.before.before.before.requires.0.0 c.before.before.before.before.before.before.before.before.before.before.before.before.before.before.before.descend.ensures _ c.before.before.before.before.before.before.before.before.before.before.before.before.before.before.before.before.before.before.before.before.before.before.before.requires.0.1 c.before.before.before.before.before.before.before.before.before.read.given.1 in
-    (compiled _ _ _ _ _ c.before.before.before.before.before.before.before.before.before.before.before.before.before.before.before.before.before.before.before.before.before.before.before.requires.0.0 c.before.before.before.before.before.before.before.before.before.before.before.before.before.before.before.descend.ensures _ c.before.before.before.before.before.before.before.before.before.before.before.before.before.before.before.before.before.before.before.before.before.before.before.requires.0.1 c.before.before.before.before.before.before.before.before.before.read.given.1 (omega (arith, c.before.before.before.before.before.before.before.before.before.before.before.before.before.before.before.descend.auto.1.0)) (omega (arith, c.before.before.before.before.before.before.before.before.before.before.before.before.before.before.before.descend.auto.1.1.0)), (omega arith, rw (length-take-le _ _ room) (omega (arith, room, c.before.before.before.before.before.before.before.before.before.before.before.before.before.before.before.before.before.before.before.before.before.before.before.requires.1, c.before.before.before.before.before.before.before.before.before.before.before.before.before.before.before.descend.auto.1.1.1.0))))
+    let room = image_room_lem _ _ _ _ _ c.requires.0.0 c.descend-read.ensures _ c.requires.0.1 c.in-Done.is in
+    (compiled _ _ _ _ _ c.requires.0.0 c.descend-read.ensures _ c.requires.0.1 c.in-Done.is (omega (arith, c.descend-read.auto.starts)) (omega (arith, c.descend-read.auto.ends)), (omega arith, rw (length-take-le _ _ room) (omega (arith, room, c.requires.1, c.descend-read.auto.out))))
 
-returns-2 : tie.Need-returns-2
-returns-2 c = fault_passed _ _ _ _ _ c.before.before.before.before.before.before.before.before.before.before.before.before.before.before.before.requires.0.0 c.before.before.before.before.before.before.before.descend.ensures _ _ _ c.before.read2.given.1
+returns-2 : tie.Need-returns-in-Refused
+returns-2 c = fault_passed _ _ _ _ _ c.requires.0.0 c.descend-read.ensures _ _ _ c.in-Refused.is
 
 pub write_in_spec : {M : Type 1} → statement M
 write_in_spec =

@@ -9,31 +9,31 @@ use Rattle.structured_text.proofs.Service.{room_refused, st_written, st_translat
 use Rattle.structured_text.proofs.write_mirrored.Statement.{statement}
 use Rattle.structured_text.proofs.write_mirrored.Tie as tie
 
-print-before-requires : tie.Need-print-before-requires
-print-before-requires c κs = let q = c.before.before.before.before.before.before.requires in (q.table, (q.among, q.long))
+print-before-requires : tie.Need-print_before-first-requires
+print-before-requires c κs = let q = c.requires in (q.table, (q.among, q.long))
 
-sub-size : tie.Need-overflow-sub-size
+sub-size : tie.Need-overflow_sub-size
 sub-size c =
-    let q = c.before.before.before.before.before.before.before.before.requires in
-    let m = measured q (c.before.print-before.ensures q.program (st_translatable q) (st_plain q) q.coded) in
+    let q = c.requires in
+    let m = measured q (c.print_before-first.ensures q.program (st_translatable q) (st_plain q) q.coded) in
     omega (arith, m)
 
-returns : tie.Need-returns
+returns : tie.Need-returns-then-out-size
 returns c =
-    let q = c.before.before.before.before.before.before.before.before.before.requires in
-    let m = measured q (c.before.before.print-before.ensures q.program (st_translatable q) (st_plain q) q.coded) in
-    let s : 115998 - c.before.before.print-before.result ≡ length (st_bytes q.program) = omega (arith, m) in
-    room_refused _ _ q.program q.parsed q.has _ s c.if1.true
+    let q = c.requires in
+    let m = measured q (c.print_before-first.ensures q.program (st_translatable q) (st_plain q) q.coded) in
+    let s : 115998 - c.print_before-first.result ≡ length (st_bytes q.program) = omega (arith, m) in
+    room_refused _ _ q.program q.parsed q.has _ s c.if-out-size.true
 
-print-before-requires-2 : tie.Need-print-before-requires-2
-print-before-requires-2 c κs = let q = c.before.before.before.before.before.before.before.before.before.before.requires in (q.table, (q.among, q.long))
+print-before-requires-2 : tie.Need-print_before-requires
+print-before-requires-2 c κs = let q = c.requires in (q.table, (q.among, q.long))
 
-returns-2 : tie.Need-returns-2
+returns-2 : tie.Need-returns
 returns-2 c =
-    let q = c.before.before.before.before.before.before.before.before.before.before.before.before.before.requires in
-    let m = measured q (c.before.before.before.before.before.before.print-before.ensures q.program (st_translatable q) (st_plain q) q.coded) in
-    let s : 115998 - c.before.before.before.before.before.before.print-before.result ≡ length (st_bytes q.program) = omega (arith, m) in
-    st_written _ _ q.program q.parsed q.has _ s _ c.before.before.before.before.if1.false (printed q s (c.before.before.print-before2.ensures q.program (st_translatable q) (st_plain q) q.coded))
+    let q = c.requires in
+    let m = measured q (c.print_before-first.ensures q.program (st_translatable q) (st_plain q) q.coded) in
+    let s : 115998 - c.print_before-first.result ≡ length (st_bytes q.program) = omega (arith, m) in
+    st_written _ _ q.program q.parsed q.has _ s _ c.if-out-size.false (printed q s (c.print_before.ensures q.program (st_translatable q) (st_plain q) q.coded))
 
 pub write_mirrored_spec : {M : Type 1} → statement M
 write_mirrored_spec = tie.close (tie.spec (λ c. search rules) print-before-requires sub-size returns print-before-requires-2 (λ c. search rules) returns-2)

@@ -7,17 +7,17 @@ use Rattle.st_program.specs.Written.{is_st_word}
 use Rattle.structured_text.proofs.reserved.is_outside.Statement.{statement}
 use Rattle.structured_text.proofs.reserved.is_outside.Tie as tie
 
-returns : tie.Need-returns
+returns : tie.Need-returns-then-kind-eq-TIMER
 unfolding kind_number
-returns c = rw (kind_is _ timer_word c.if1.true)
+returns c = rw (kind_is _ timer_word c.if-kind-eq-TIMER.true)
 
-returns-2 : tie.Need-returns-2
+returns-2 : tie.Need-returns-then-named
 unfolding kind_number
-returns-2 c = rw (kind_is_not _ timer_word c.before.before.before.before.before.requires c.before.before.before.if1.false, c.before.before.if2.true) (c.is-st-word.ensures ∙ ap is_st_word c.before.name.ensures)
+returns-2 c = rw (kind_is_not _ timer_word c.requires c.if-kind-eq-TIMER.false, c.if-named.true) (c.is_st_word.ensures ∙ ap is_st_word c.name.ensures)
 
-returns-3 : tie.Need-returns-3
+returns-3 : tie.Need-returns
 unfolding kind_number
-returns-3 c = rw (kind_is_not _ timer_word c.before.before.before.requires c.before.if1.false, c.if2.false)
+returns-3 c = rw (kind_is_not _ timer_word c.requires c.if-kind-eq-TIMER.false, c.if-named.false)
 
 pub is_outside_spec : {M : Type 1} → statement M
 is_outside_spec = tie.close (tie.spec returns (λ c κs. search rules) (λ c κs. search rules) returns-2 returns-3)

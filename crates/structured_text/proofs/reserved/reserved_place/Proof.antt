@@ -11,45 +11,45 @@ use Rattle.structured_text.proofs.Walk.{Walking, walking, walk_fault, walk_end, 
 use Rattle.structured_text.proofs.reserved.reserved_place.Statement.{statement}
 use Rattle.structured_text.proofs.reserved.reserved_place.Tie as tie
 
-abbrev invariant_loop : tie.invariant_loop
+abbrev invariant_loop : tie.invariant-loop-token
 invariant_loop text at₀ named₀ at named = Walking text named at
 
-abbrev decreases_loop : tie.decreases_loop
+abbrev decreases_loop : tie.decreases-loop-token
 decreases_loop text at₀ named₀ at named = length text - at
 
-returns : tie.Need-returns invariant_loop decreases_loop
-returns c = walk_fault c.before.before.before.loop.invariant _ (is_fault _ _ _ c.before.before.token-at.ensures _ _ c.enum_told.given.1).0
+returns : tie.Need-returns-in_default invariant_loop decreases_loop
+returns c = walk_fault c.loop-token.invariant _ (is_fault _ _ _ c.token_at-read.ensures _ _ c.in_default.is).0
 
-returns-2 : tie.Need-returns-2 invariant_loop decreases_loop
+returns-2 : tie.Need-returns-then-token-eq-END invariant_loop decreases_loop
 unfolding kind_number
-returns-2 c = walk_end c.before.before.before.before.before.before.loop.invariant _ _ _ (is_token _ _ _ c.before.before.before.before.before.token-at.ensures _ c.before.before.before.read.given.1).0 (kind_is _ ending c.if1.true)
+returns-2 c = walk_end c.loop-token.invariant _ _ _ (is_token _ _ _ c.token_at-read.ensures _ c.in-Done.is).0 (kind_is _ ending c.if-token-eq-END.true)
 
-is-outside-requires : tie.Need-is-outside-requires invariant_loop decreases_loop
-is-outside-requires c κs = (is_token _ _ _ c.before.before.before.before.before.token-at.ensures _ c.before.before.before.read.given.1).1.known_kind
+is-outside-requires : tie.Need-is_outside-requires invariant_loop decreases_loop
+is-outside-requires c κs = (is_token _ _ _ c.token_at-read.ensures _ c.in-Done.is).1.known_kind
 
-returns-3 : tie.Need-returns-3 invariant_loop decreases_loop
+returns-3 : tie.Need-returns-then-is_outside invariant_loop decreases_loop
 unfolding kind_number
 returns-3 c =
-    let t = is_token _ _ _ c.before.before.before.before.before.before.before.token-at.ensures _ c.before.before.before.before.before.read.given.1 in
-    walk_here c.before.before.before.before.before.before.before.before.loop.invariant _ _ _ t.0 (kind_is_not _ ending t.1.known_kind c.before.before.if1.false) (sym c.before.is-outside.ensures ∙ c.if2.true)
+    let t = is_token _ _ _ c.token_at-read.ensures _ c.in-Done.is in
+    walk_here c.loop-token.invariant _ _ _ t.0 (kind_is_not _ ending t.1.known_kind c.if-token-eq-END.false) (sym c.is_outside.ensures ∙ c.if-is_outside.true)
 
-declares-name-requires : tie.Need-declares-name-requires invariant_loop decreases_loop
-declares-name-requires c κs = (is_token _ _ _ c.before.before.before.before.before.before.before.token-at.ensures _ c.before.before.before.before.before.read.given.1).1.known_kind
+declares-name-requires : tie.Need-declares_name-named-requires invariant_loop decreases_loop
+declares-name-requires c κs = (is_token _ _ _ c.token_at-read.ensures _ c.in-Done.is).1.known_kind
 
-loop-less : tie.Need-loop-smaller invariant_loop decreases_loop
+loop-less : tie.Need-loop-token-smaller invariant_loop decreases_loop
 loop-less c =
-    let t = is_token _ _ _ c.before.before.before.before.before.before.before.before.token-at.ensures _ c.before.before.before.before.before.before.read.given.1 in
-    let m = t.1.moved c.before.before.before.if1.false in
-    let l = t.1.within c.before.before.before.before.before.before.before.before.before.loop.invariant.inside in
+    let t = is_token _ _ _ c.token_at-read.ensures _ c.in-Done.is in
+    let m = t.1.moved c.if-token-eq-END.false in
+    let l = t.1.within c.loop-token.invariant.inside in
     omega (arith, m, l, t.1.after)
 
-loop-again : tie.Need-loop-preserved invariant_loop decreases_loop
+loop-again : tie.Need-loop-token-preserved invariant_loop decreases_loop
 unfolding kind_number
 loop-again c =
-    let t = is_token _ _ _ c.before.before.before.before.before.before.before.before.token-at.ensures _ c.before.before.before.before.before.before.read.given.1 in
-    let m = t.1.moved c.before.before.before.if1.false in
-    let n = walk_next c.before.before.before.before.before.before.before.before.before.loop.invariant _ _ _ t.0 (kind_is_not _ ending t.1.known_kind c.before.before.before.if1.false) (sym c.before.before.is-outside.ensures ∙ c.before.if2.false) (omega (arith, m, t.1.after)) (t.1.within c.before.before.before.before.before.before.before.before.before.loop.invariant.inside) in
-    rw c.declares-name.ensures n
+    let t = is_token _ _ _ c.token_at-read.ensures _ c.in-Done.is in
+    let m = t.1.moved c.if-token-eq-END.false in
+    let n = walk_next c.loop-token.invariant _ _ _ t.0 (kind_is_not _ ending t.1.known_kind c.if-token-eq-END.false) (sym c.is_outside.ensures ∙ c.if-is_outside.false) (omega (arith, m, t.1.after)) (t.1.within c.loop-token.invariant.inside) in
+    rw c.declares_name-named.ensures n
 
 pub reserved_place_spec : {M : Type 1} → statement M
 reserved_place_spec =
