@@ -9,11 +9,14 @@ ghost use Rattle.tracer.specs.Printed.{printed};
 ghost use Rattle.tracer.specs.Session.{session_of, fed_over, put_over};
 
 use std::fmt::{Display, Formatter};
-use std::io::{Eprint, Read, Write};
+use std::io::{Cursor, Eprint, Read, Write};
 use std::{fmt, io};
 use tracer::Tracer;
 
 const PART_ROOM: usize = 65536;
+
+// std cuts a reason at 256 bytes.
+const LINE_ROOM: usize = 320;
 
 // The call that failed, and why.
 #[derive(Drop)]
@@ -112,9 +115,17 @@ fn words_of(line: &str) -> &str {
 }
 
 // On standard error: the call, and the reason in the words of the system.
-fn tell<R: Eprint + AllocGlobal>(rt: &R, failure: &Failure) {
-    if let Ok(line) = format!(in rt.alloc(); "{failure}") {
-        let _ = rt.eprintln(words_of(line.as_str()));
+fn tell<R: Eprint>(rt: &R, failure: &Failure) {
+    let mut line = Cursor::new([0u8; LINE_ROOM]);
+    if write!(line, "{failure}").is_err() {
+        return;
+    }
+    let end = line.position() as usize;
+    let bytes = line.into_inner();
+    if let Some(told) = bytes.get(..end)
+        && let Ok(told) = str::from_utf8(told)
+    {
+        let _ = rt.eprintln(words_of(told));
     }
 }
 
