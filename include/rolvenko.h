@@ -2,7 +2,7 @@
  * rule sets, printed as Structured Text, rows filled with the local time, the licence charge of a trace, its promises watched, and
  * whether rules can ever stop in service, as C functions.
  *
- * Link target/staticlib/librolvenko.a, which `rt staticlib rolvenko` writes, or what ./install puts down of it (-lrolvenko; pkg-config
+ * Link crates/rolvenko/out/librolvenko.a, which `rt lib` writes there, or what ./install puts down of it (-lrolvenko; pkg-config
  * rolvenko). It is for x86-64 Linux, needs memcpy and memset, allocates nothing and keeps nothing between calls, so calls from several
  * threads on memory of their own do not meet.
  *

@@ -45,7 +45,7 @@ def main():
     tried = bad = 0
     for name in sys.argv[1:] or sorted(os.listdir("crates")):
         crate = os.path.join("crates", name)
-        for folder in ("must-fail", "must-fail/long"):
+        for folder in ("must-fail", "must-fail-long"):
             at = os.path.join(crate, folder)
             for edit in sorted(os.listdir(at)) if os.path.isdir(at) else []:
                 if not edit.endswith(".edit"):

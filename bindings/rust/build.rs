@@ -1,11 +1,11 @@
-//! Links the archive that `rt staticlib rolvenko` writes. ROLVENKO_ARCHIVE names its folder where it is not the repository's own.
+//! Links the archive that `rt lib` writes in crates/rolvenko. ROLVENKO_ARCHIVE names its folder where it is not the repository's own.
 
 use std::env;
 use std::path::PathBuf;
 
 fn main() {
     let folder = env::var_os("ROLVENKO_ARCHIVE").map_or_else(
-        || PathBuf::from(env!("CARGO_MANIFEST_DIR")).join("../../target/staticlib"),
+        || PathBuf::from(env!("CARGO_MANIFEST_DIR")).join("../../crates/rolvenko/out"),
         PathBuf::from,
     );
     println!("cargo:rerun-if-env-changed=ROLVENKO_ARCHIVE");

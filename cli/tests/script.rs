@@ -2,12 +2,12 @@
 
 mod common;
 
-use common::{folder, out, status, told};
-use std::fs;
+use common::{out, status, told};
 use std::os::unix::fs::PermissionsExt;
 use std::path::{Path, PathBuf};
 use std::process::{Command, Output};
 use std::sync::{Mutex, MutexGuard, PoisonError};
+use std::{env, fs, process};
 
 /// One test at a time: a child that another test starts while a script is being written holds it open, and then it cannot be run ("Text file busy").
 fn alone() -> MutexGuard<'static, ()> {
@@ -16,25 +16,21 @@ fn alone() -> MutexGuard<'static, ()> {
 }
 
 const RT: &str = "#!/bin/sh
-mkdir -p target/staticlib
-case $1 in
-check)
-  shift
-  for crate; do
-    echo \"fn $crate::work: proved\"
-    case $crate in
-    first) echo \"rt: first proved (unchanged since it was last proved)\" ;;
-    second) echo \"rt: second proved (70 s)\" ;;
-    *) echo \"rt: $crate proved (3 s)\" ;;
-    esac
-  done
-  echo 'rt: ok, 3 crates proved' ;;
-staticlib)
-  echo 'rt: first proved (unchanged since it was last proved)' >&2
-  [ ! -e broken ] || { echo 'src/lib.rt:3:1: error: it does not follow'; exit 1; }
-  : >target/staticlib/librolvenko.a
-  echo 'rt: target/staticlib/librolvenko.a has the functions' ;;
-esac
+[ $1 = lib ] && [ ${PWD##*/} = rolvenko ] || exit 9
+proved() {
+  echo \"rt: chose --jobs 2 for $1\"
+  echo \"fn $1::work: proved\"
+  echo \"crate $1: modules loaded=7 checked=$2\"
+  echo 'logic=proved functions=1'
+}
+proved first 0
+[ ! -e ../../broken ] || { echo 'src/lib.rt:3:1: error: it does not follow'; exit 1; }
+sleep 2
+proved second 5
+proved third 5
+proved rolvenko 5
+mkdir -p out
+: >out/librolvenko.a
 ";
 const CARGO: &str = "#!/bin/sh
 while [ $1 != --target-dir ]; do shift; done
@@ -48,16 +44,17 @@ fn program(path: &Path, text: &str) {
     fs::set_permissions(path, fs::Permissions::from_mode(0o755)).unwrap();
 }
 
-/// A repository of three crates, with the script.
+/// A repository of three crates, with the script. It stands outside this one, which may hold no second crates.txt.
 fn repository(name: &str) -> PathBuf {
-    let at = folder(name);
-    for part in ["bin", "crates", "cli/src", "bindings/rust/src"] {
+    let at = env::temp_dir().join(format!("rolvenko-{}-{name}", process::id()));
+    let _ = fs::remove_dir_all(&at);
+    for part in ["bin", "crates/rolvenko", "cli/src", "bindings/rust/src"] {
         fs::create_dir_all(at.join(part)).unwrap();
     }
     program(&at.join("bin/rt"), RT);
     program(&at.join("bin/cargo"), CARGO);
     fs::copy("../rolvenko", at.join("rolvenko")).unwrap();
-    fs::write(at.join("crates.txt"), "first:\nsecond: first\nrolvenko: first second third\n").unwrap();
+    fs::write(at.join("crates.txt"), "first:\nsecond: first\nrolvenko staticlib: first second third\n").unwrap();
     fs::write(at.join("cli/seconds.txt"), "first 10\nsecond 40\nthird 50\nrolvenko 30\n").unwrap();
     fs::write(at.join("cli/Cargo.toml"), "").unwrap();
     at
@@ -81,10 +78,13 @@ fn it_proves_and_builds_what_is_missing_with_a_line_a_crate() {
     assert!(lines[2].starts_with("  3 of 4  third "), "{said}");
     assert!(lines[3].starts_with("  3 of 4  are proved; now the archive, about "), "{said}");
     assert!(lines[4].starts_with("  4 of 4  rolvenko ") && lines[4].ends_with(", about 0 min 00 s left"), "{said}");
-    assert_eq!(fs::read_to_string(at.join("target/log/seconds")).unwrap(), "second 70\nthird 3\n");
+    let took = fs::read_to_string(at.join("target/log/seconds")).unwrap();
+    let took: Vec<(&str, u64)> = took.lines().filter_map(|line| line.split_once(' ')).map(|(name, n)| (name, n.parse().unwrap())).collect();
+    assert!(matches!(took[..], [("second", 2..), ("third", _), ("rolvenko", _)]), "{took:?}");
     // nothing is missing now
     let o = run(&at);
     assert_eq!((out(&o).as_str(), told(&o).as_str()), ("the tool: help\n", ""));
+    fs::remove_dir_all(at).unwrap();
 }
 
 #[test]
@@ -95,6 +95,7 @@ fn a_proof_that_fails_is_told() {
     let o = run(&at);
     assert_eq!((status(&o), out(&o).as_str()), (2, ""));
     assert!(told(&o).ends_with("src/lib.rt:3:1: error: it does not follow\nthe archive was not built; target/log has what rt said\n"), "{}", told(&o));
+    fs::remove_dir_all(at).unwrap();
 }
 
 #[test]
@@ -104,4 +105,5 @@ fn a_program_that_is_missing_is_named() {
     fs::remove_file(at.join("bin/rt")).unwrap();
     let o = run(&at);
     assert_eq!((status(&o), told(&o).as_str()), (2, "rolvenko: no rt on the path (the prover of Rattle, which builds the archive)\n"));
+    fs::remove_dir_all(at).unwrap();
 }

@@ -52,7 +52,7 @@ module _ (text : List ℕ) (cells : List ℤ) (lengths : List ℕ) (m : Lent) wh
           let x : k ≡ n = cc in
           record {
             buffer = buffer;
-            translated = rw (← x) h;
+            translated = rw x at h;
             begins = rw (← x, g);
             left_is = rw (← x, g) (ap {A = AfterReplay} (λ r. r.left) q);
           }
