@@ -8,8 +8,8 @@ use Rattle.rolvenko.proofs.rolvenko_advance.Tie as tie
 
 returns : tie.Need-returns
 returns c =
-    let e = c.before.before.advance.ensures.0 in
-    (c.pack-response.ensures ∙ ap packed_response (ap {A = AfterCall} (λ x. x.reply) e), ap {A = AfterCall} (λ x. x.cells) e)
+    let e = c.advance-response.ensures.0 in
+    (c.pack_response.ensures ∙ ap packed_response (ap {A = AfterCall} (λ x. x.reply) e), ap {A = AfterCall} (λ x. x.cells) e)
 
 pub rolvenko_advance_spec : {M : Type 1} → statement M
 rolvenko_advance_spec = tie.close (tie.spec (λ c κs. search rules) (λ c κs. search rules) (λ c. search rules) returns)

@@ -8,8 +8,8 @@ use Rattle.rolvenko.proofs.rolvenko_begin.Tie as tie
 
 returns : tie.Need-returns
 returns c =
-    let e = c.before.before.begin.ensures.0 in
-    (c.pack-response.ensures ∙ ap packed_response (ap {A = AfterCall} (λ x. x.reply) e), ap {A = AfterCall} (λ x. x.cells) e)
+    let e = c.begin-response.ensures.0 in
+    (c.pack_response.ensures ∙ ap packed_response (ap {A = AfterCall} (λ x. x.reply) e), ap {A = AfterCall} (λ x. x.cells) e)
 
 pub rolvenko_begin_spec : {M : Type 1} → statement M
 rolvenko_begin_spec = tie.close (tie.spec (λ c κs. search rules) (λ c κs. search rules) (λ c. search rules) returns)

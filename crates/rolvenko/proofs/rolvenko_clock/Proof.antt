@@ -13,18 +13,18 @@ use Rattle.rolvenko.proofs.Answered.{answers}
 
 pack-requires : tie.Need-pack-requires
 pack-requires c κs =
-    let l = subst FilledWithin c.before.number.given.1 c.before.before.before.before.fill.ensures.1 in
+    let l = subst FilledWithin c.in-Refused.is c.fill.ensures.1 in
     (omega (arith, l), omega arith)
 
-returns : tie.Need-returns
+returns : tie.Need-returns-in-Done
 returns c =
-    let e = rw (to_z-of_z {w = w64} c.before.before.before.before.before.before.ranges.utc) at c.before.before.before.fill.ensures.0 in
-    (answers (λ (x : AfterFill). packed_check x.answer) after_fill c.enum_told.given.1 e, ap {A = AfterFill} (λ x. x.row) e)
+    let e = rw (to_z-of_z {w = w64} c.ranges.utc) at c.fill.ensures.0 in
+    (answers (λ (x : AfterFill). packed_check x.answer) after_fill c.in-Done.is e, ap {A = AfterFill} (λ x. x.row) e)
 
-returns-2 : tie.Need-returns-2
+returns-2 : tie.Need-returns-in-Refused
 returns-2 c =
-    let e = rw (to_z-of_z {w = w64} c.before.before.before.before.before.before.before.before.ranges.utc) at c.before.before.before.before.before.fill.ensures.0 in
-    (c.pack.ensures ∙ answers (λ (x : AfterFill). packed_check x.answer) after_fill c.before.before.number.given.1 e, ap {A = AfterFill} (λ x. x.row) e)
+    let e = rw (to_z-of_z {w = w64} c.ranges.utc) at c.fill.ensures.0 in
+    (c.pack.ensures ∙ answers (λ (x : AfterFill). packed_check x.answer) after_fill c.in-Refused.is e, ap {A = AfterFill} (λ x. x.row) e)
 
 pub rolvenko_clock_spec : {M : Type 1} → statement M
 rolvenko_clock_spec =

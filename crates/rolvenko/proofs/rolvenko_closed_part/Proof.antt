@@ -9,14 +9,14 @@ use Rattle.rolvenko.proofs.rolvenko_closed_part.Tie as tie
 
 pack-requires : tie.Need-pack-requires
 pack-requires c κs =
-    let l = subst ClosingWithin c.before.answer.given.1 c.before.before.before.closed-part.ensures.1 in
+    let l = subst ClosingWithin c.in-Refused.is c.closed_part-part.ensures.1 in
     (omega (arith, l), omega arith)
 
-returns : tie.Need-returns
-returns c = answered c.enum_told.given.1 c.before.before.closed-part.ensures.0
+returns : tie.Need-returns-in-Closed
+returns c = answered c.in-Closed.is c.closed_part-part.ensures.0
 
-returns-2 : tie.Need-returns-2
-returns-2 c = c.pack.ensures ∙ answered c.before.before.answer.given.1 c.before.before.before.before.closed-part.ensures.0
+returns-2 : tie.Need-returns-in-Refused
+returns-2 c = c.pack.ensures ∙ answered c.in-Refused.is c.closed_part-part.ensures.0
 
 pub rolvenko_closed_part_spec : {M : Type 1} → statement M
 rolvenko_closed_part_spec =

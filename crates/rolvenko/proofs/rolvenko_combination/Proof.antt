@@ -10,18 +10,18 @@ use Rattle.rolvenko.proofs.rolvenko_combination.Tie as tie
 
 pack-requires : tie.Need-pack-requires
 pack-requires c κs =
-    let l = subst ClosingWithin c.before.number.given.1 c.before.before.before.before.before.combination.ensures.1 in
+    let l = subst ClosingWithin c.in-Refused.is c.combination.ensures.1 in
     (omega (arith, l), omega arith)
 
-returns : tie.Need-returns
+returns : tie.Need-returns-in-Closed
 returns c =
-    let e = c.before.before.before.before.combination.ensures.0 in
-    (answered c.enum_told.given.1 e, (ap {A = AfterClosed} (λ x. x.state) e, ap {A = AfterClosed} (λ x. x.row) e))
+    let e = c.combination.ensures.0 in
+    (answered c.in-Closed.is e, (ap {A = AfterClosed} (λ x. x.state) e, ap {A = AfterClosed} (λ x. x.row) e))
 
-returns-2 : tie.Need-returns-2
+returns-2 : tie.Need-returns-in-Refused
 returns-2 c =
-    let e = c.before.before.before.before.before.before.combination.ensures.0 in
-    (c.pack.ensures ∙ answered c.before.before.number.given.1 e, (ap {A = AfterClosed} (λ x. x.state) e, ap {A = AfterClosed} (λ x. x.row) e))
+    let e = c.combination.ensures.0 in
+    (c.pack.ensures ∙ answered c.in-Refused.is e, (ap {A = AfterClosed} (λ x. x.state) e, ap {A = AfterClosed} (λ x. x.row) e))
 
 pub rolvenko_combination_spec : {M : Type 1} → statement M
 rolvenko_combination_spec =

@@ -8,8 +8,8 @@ use Rattle.rolvenko.proofs.rolvenko_finish.Tie as tie
 
 returns : tie.Need-returns
 returns c =
-    let e = c.before.before.before.finish.ensures.0 in
-    (c.pack-response.ensures ∙ ap packed_response (ap {A = AfterFinish} (λ x. x.reply) e), (ap {A = AfterFinish} (λ x. x.cells) e, ap {A = AfterFinish} (λ x. x.state) e))
+    let e = c.finish-response.ensures.0 in
+    (c.pack_response.ensures ∙ ap packed_response (ap {A = AfterFinish} (λ x. x.reply) e), (ap {A = AfterFinish} (λ x. x.cells) e, ap {A = AfterFinish} (λ x. x.state) e))
 
 pub rolvenko_finish_spec : {M : Type 1} → statement M
 rolvenko_finish_spec = tie.close (tie.spec (λ c κs. search rules) (λ c κs. search rules) (λ c. search rules) (λ c. search rules) returns)

@@ -21,25 +21,25 @@ shown text lengths cells m left r h x = subst (λ (a : Answer ℕ). ShownIf a te
 
 pack-requires : tie.Need-pack-requires
 pack-requires c κs =
-    let l = subst ReplayedWithin c.before.length.given.1 c.before.before.before.before.before.before.before.before.before.before.before.replay.ensures.1.1 in
+    let l = subst ReplayedWithin c.in-Done.is c.replay.ensures.1.1 in
     (omega arith, omega (arith, l))
 
-pack-requires-2 : tie.Need-pack-requires-2
+pack-requires-2 : tie.Need-pack-requires-in-Refused
 pack-requires-2 c κs =
-    let l = subst ReplayedWithin c.before.number.given.1 c.before.before.before.before.before.before.before.before.before.before.before.replay.ensures.1.1 in
+    let l = subst ReplayedWithin c.in-Refused.is c.replay.ensures.1.1 in
     (omega (arith, l), omega arith)
 
-returns : tie.Need-returns
+returns : tie.Need-returns-in-Done
 returns c =
-    let r = c.before.before.before.before.before.before.before.before.before.before.before.before.replay in
+    let r = c.replay in
     let e = r.ensures.0 in
-    (c.pack.ensures ∙ answers (λ (x : AfterReplay). packed_translation x.answer) after_replay c.before.before.length.given.1 e, (ap {A = AfterReplay} (λ x. x.left) e, shown _ _ _ _ _ r.result e r.ensures.1.0))
+    (c.pack.ensures ∙ answers (λ (x : AfterReplay). packed_translation x.answer) after_replay c.in-Done.is e, (ap {A = AfterReplay} (λ x. x.left) e, shown _ _ _ _ _ r.result e r.ensures.1.0))
 
-returns-2 : tie.Need-returns-2
+returns-2 : tie.Need-returns-in-Refused
 returns-2 c =
-    let r = c.before.before.before.before.before.before.before.before.before.before.before.before.replay in
+    let r = c.replay in
     let e = r.ensures.0 in
-    (c.pack2.ensures ∙ answers (λ (x : AfterReplay). packed_translation x.answer) after_replay c.before.before.number.given.1 e, (ap {A = AfterReplay} (λ x. x.left) e, shown _ _ _ _ _ r.result e r.ensures.1.0))
+    (c.pack-in-Refused.ensures ∙ answers (λ (x : AfterReplay). packed_translation x.answer) after_replay c.in-Refused.is e, (ap {A = AfterReplay} (λ x. x.left) e, shown _ _ _ _ _ r.result e r.ensures.1.0))
 
 pub rolvenko_replay_spec : {M : Type 1} → statement M
 rolvenko_replay_spec =

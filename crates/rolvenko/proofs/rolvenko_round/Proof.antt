@@ -9,7 +9,7 @@ use Rattle.rolvenko.proofs.rolvenko_round.Tie as tie
 
 returns : tie.Need-returns
 returns c =
-    let e = c.before.before.before.before.before.round.ensures in
+    let e = c.round-number.ensures in
     (c.pack.ensures ∙ ap (λ (n : ℕ). packed n 0 0) (ap {A = AfterRoundCall} (λ x. x.number) e), ap {A = AfterRoundCall} (λ x. x.left) e)
 
 pub rolvenko_round_spec : {M : Type 1} → statement M

@@ -12,23 +12,23 @@ use Rattle.rolvenko.proofs.Answered.{answers}
 
 pack-requires : tie.Need-pack-requires
 pack-requires c κs =
-    let l = subst (ScannedWithin image_limit) c.before.steps.given.1 c.before.before.before.before.scan.ensures.1 in
+    let l = subst (ScannedWithin image_limit) c.in-Done.is c.scan.ensures.1 in
     (omega arith, omega (arith, l))
 
-pack-requires-2 : tie.Need-pack-requires-2
+pack-requires-2 : tie.Need-pack-requires-in-Refused
 pack-requires-2 c κs =
-    let l = subst (ScannedWithin image_limit) c.before.number.given.1 c.before.before.before.before.scan.ensures.1 in
+    let l = subst (ScannedWithin image_limit) c.in-Refused.is c.scan.ensures.1 in
     (omega (arith, l.0), omega (arith, l.1))
 
-returns : tie.Need-returns
+returns : tie.Need-returns-in-Done
 returns c =
-    let e = c.before.before.before.before.before.scan.ensures.0 in
-    (c.pack.ensures ∙ answers packed_scan after_scan c.before.before.steps.given.1 e, ap {A = AfterScan} (λ x. x.state) e)
+    let e = c.scan.ensures.0 in
+    (c.pack.ensures ∙ answers packed_scan after_scan c.in-Done.is e, ap {A = AfterScan} (λ x. x.state) e)
 
-returns-2 : tie.Need-returns-2
+returns-2 : tie.Need-returns-in-Refused
 returns-2 c =
-    let e = c.before.before.before.before.before.scan.ensures.0 in
-    (c.pack2.ensures ∙ answers packed_scan after_scan c.before.before.number.given.1 e, ap {A = AfterScan} (λ x. x.state) e)
+    let e = c.scan.ensures.0 in
+    (c.pack-in-Refused.ensures ∙ answers packed_scan after_scan c.in-Refused.is e, ap {A = AfterScan} (λ x. x.state) e)
 
 pub rolvenko_scan_spec : {M : Type 1} → statement M
 rolvenko_scan_spec =

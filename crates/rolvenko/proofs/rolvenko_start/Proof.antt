@@ -12,18 +12,18 @@ use Rattle.rolvenko.proofs.Answered.{answers}
 
 pack-requires : tie.Need-pack-requires
 pack-requires c κs =
-    let l = subst (StartedWithin image_limit) c.before.number.given.1 c.before.before.before.before.start.ensures.1 in
+    let l = subst (StartedWithin image_limit) c.in-Refused.is c.start.ensures.1 in
     (omega (arith, l), omega arith)
 
-returns : tie.Need-returns
+returns : tie.Need-returns-in-Done
 returns c =
-    let e = c.before.before.before.start.ensures.0 in
-    (answers (λ (x : AfterStart). packed_check x.answer) after_start c.enum_told.given.1 e, ap {A = AfterStart} (λ x. x.state) e)
+    let e = c.start.ensures.0 in
+    (answers (λ (x : AfterStart). packed_check x.answer) after_start c.in-Done.is e, ap {A = AfterStart} (λ x. x.state) e)
 
-returns-2 : tie.Need-returns-2
+returns-2 : tie.Need-returns-in-Refused
 returns-2 c =
-    let e = c.before.before.before.before.before.start.ensures.0 in
-    (c.pack.ensures ∙ answers (λ (x : AfterStart). packed_check x.answer) after_start c.before.before.number.given.1 e, ap {A = AfterStart} (λ x. x.state) e)
+    let e = c.start.ensures.0 in
+    (c.pack.ensures ∙ answers (λ (x : AfterStart). packed_check x.answer) after_start c.in-Refused.is e, ap {A = AfterStart} (λ x. x.state) e)
 
 pub rolvenko_start_spec : {M : Type 1} → statement M
 rolvenko_start_spec =

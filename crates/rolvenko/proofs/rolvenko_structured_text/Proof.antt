@@ -11,23 +11,23 @@ use Rattle.rolvenko.proofs.Answered.{answers}
 
 pack-requires : tie.Need-pack-requires
 pack-requires c κs =
-    let l = subst WrittenWithin c.before.length.given.1 c.before.before.before.before.before.structured-text.ensures.1 in
+    let l = subst WrittenWithin c.in-Text.is c.structured_text.ensures.1 in
     (omega arith, omega (arith, l))
 
-pack-requires-2 : tie.Need-pack-requires-2
+pack-requires-2 : tie.Need-pack-requires-in-Refused
 pack-requires-2 c κs =
-    let l = subst WrittenWithin c.before.number.given.1 c.before.before.before.before.before.structured-text.ensures.1 in
+    let l = subst WrittenWithin c.in-Refused.is c.structured_text.ensures.1 in
     (omega (arith, l), omega arith)
 
-returns : tie.Need-returns
+returns : tie.Need-returns-in-Text
 returns c =
-    let e = c.before.before.before.before.before.before.structured-text.ensures.0 in
-    (c.pack.ensures ∙ answers (λ (x : AfterTranslation). packed_translation x.answer) after_writing c.before.before.length.given.1 e, ap {A = AfterTranslation} (λ x. x.buffer) e)
+    let e = c.structured_text.ensures.0 in
+    (c.pack.ensures ∙ answers (λ (x : AfterTranslation). packed_translation x.answer) after_writing c.in-Text.is e, ap {A = AfterTranslation} (λ x. x.buffer) e)
 
-returns-2 : tie.Need-returns-2
+returns-2 : tie.Need-returns-in-Refused
 returns-2 c =
-    let e = c.before.before.before.before.before.before.structured-text.ensures.0 in
-    (c.pack2.ensures ∙ answers (λ (x : AfterTranslation). packed_translation x.answer) after_writing c.before.before.number.given.1 e, ap {A = AfterTranslation} (λ x. x.buffer) e)
+    let e = c.structured_text.ensures.0 in
+    (c.pack-in-Refused.ensures ∙ answers (λ (x : AfterTranslation). packed_translation x.answer) after_writing c.in-Refused.is e, ap {A = AfterTranslation} (λ x. x.buffer) e)
 
 pub rolvenko_structured_text_spec : {M : Type 1} → statement M
 rolvenko_structured_text_spec =

@@ -11,23 +11,23 @@ use Rattle.rolvenko.proofs.Answered.{answers}
 
 pack-requires : tie.Need-pack-requires
 pack-requires c κs =
-    let l = subst TranslatedWithin c.before.length.given.1 c.before.before.before.before.before.translate.ensures.1 in
+    let l = subst TranslatedWithin c.in-Image.is c.translate.ensures.1 in
     (omega arith, omega (arith, l))
 
-pack-requires-2 : tie.Need-pack-requires-2
+pack-requires-2 : tie.Need-pack-requires-in-Refused
 pack-requires-2 c κs =
-    let l = subst TranslatedWithin c.before.number.given.1 c.before.before.before.before.before.translate.ensures.1 in
+    let l = subst TranslatedWithin c.in-Refused.is c.translate.ensures.1 in
     (omega (arith, l), omega arith)
 
-returns : tie.Need-returns
+returns : tie.Need-returns-in-Image
 returns c =
-    let e = c.before.before.before.before.before.before.translate.ensures.0 in
-    (c.pack.ensures ∙ answers (λ (x : AfterTranslation). packed_translation x.answer) after_translation c.before.before.length.given.1 e, ap {A = AfterTranslation} (λ x. x.buffer) e)
+    let e = c.translate.ensures.0 in
+    (c.pack.ensures ∙ answers (λ (x : AfterTranslation). packed_translation x.answer) after_translation c.in-Image.is e, ap {A = AfterTranslation} (λ x. x.buffer) e)
 
-returns-2 : tie.Need-returns-2
+returns-2 : tie.Need-returns-in-Refused
 returns-2 c =
-    let e = c.before.before.before.before.before.before.translate.ensures.0 in
-    (c.pack2.ensures ∙ answers (λ (x : AfterTranslation). packed_translation x.answer) after_translation c.before.before.number.given.1 e, ap {A = AfterTranslation} (λ x. x.buffer) e)
+    let e = c.translate.ensures.0 in
+    (c.pack-in-Refused.ensures ∙ answers (λ (x : AfterTranslation). packed_translation x.answer) after_translation c.in-Refused.is e, ap {A = AfterTranslation} (λ x. x.buffer) e)
 
 pub rolvenko_translate_spec : {M : Type 1} → statement M
 rolvenko_translate_spec =

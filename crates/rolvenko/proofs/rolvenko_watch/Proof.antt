@@ -11,23 +11,23 @@ use Rattle.rolvenko.proofs.Answered.{answers}
 
 pack-requires : tie.Need-pack-requires
 pack-requires c κs =
-    let l = subst WatchedWithin c.before.count.given.1 c.before.before.before.before.watch.ensures.1 in
+    let l = subst WatchedWithin c.in-Count.is c.watch.ensures.1 in
     (omega arith, omega (arith, l))
 
-pack-requires-2 : tie.Need-pack-requires-2
+pack-requires-2 : tie.Need-pack-requires-in-Refused
 pack-requires-2 c κs =
-    let l = subst WatchedWithin c.before.number.given.1 c.before.before.before.before.watch.ensures.1 in
+    let l = subst WatchedWithin c.in-Refused.is c.watch.ensures.1 in
     (omega (arith, l), omega arith)
 
-returns : tie.Need-returns
+returns : tie.Need-returns-in-Count
 returns c =
-    let e = c.before.before.before.before.before.watch.ensures.0 in
-    (c.pack.ensures ∙ answers (λ (x : AfterWatch). packed_translation x.answer) after_watch c.before.before.count.given.1 e, ap {A = AfterWatch} (λ x. x.report) e)
+    let e = c.watch.ensures.0 in
+    (c.pack.ensures ∙ answers (λ (x : AfterWatch). packed_translation x.answer) after_watch c.in-Count.is e, ap {A = AfterWatch} (λ x. x.report) e)
 
-returns-2 : tie.Need-returns-2
+returns-2 : tie.Need-returns-in-Refused
 returns-2 c =
-    let e = c.before.before.before.before.before.watch.ensures.0 in
-    (c.pack2.ensures ∙ answers (λ (x : AfterWatch). packed_translation x.answer) after_watch c.before.before.number.given.1 e, ap {A = AfterWatch} (λ x. x.report) e)
+    let e = c.watch.ensures.0 in
+    (c.pack-in-Refused.ensures ∙ answers (λ (x : AfterWatch). packed_translation x.answer) after_watch c.in-Refused.is e, ap {A = AfterWatch} (λ x. x.report) e)
 
 pub rolvenko_watch_spec : {M : Type 1} → statement M
 rolvenko_watch_spec =
