@@ -55,8 +55,8 @@ module _ (text : List ℕ) (cells : List ℤ) (lengths : List ℕ) (m : Lent) wh
             translated = rw x at h;
             begins = rw (← x, g);
             left_is =
-              subst (λ (z : ℕ). left ≡ recorded (with_image m buffer) (start_of (take z buffer) m.state).state (scans_of (take z buffer) (start_of (take z buffer) m.state).state (rows_of cells lengths)))
-              x (rw g (ap {A = AfterReplay} (λ r. r.left) q));
+                subst (λ (z : ℕ). left ≡ recorded (with_image m buffer) (start_of (take z buffer) m.state).state (scans_of (take z buffer) (start_of (take z buffer) m.state).state (rows_of cells lengths)))
+                x (rw g (ap {A = AfterReplay} (λ r. r.left) q));
           }
 
       go : (a : Answer ℕ) (buffer : List ℕ) → translation_of text m.image ≡ record { answer = a; buffer = buffer }
