@@ -1,5 +1,5 @@
 -- What a call takes of the rest of a part lies in the part, and the calls over a part take all of it in order. Assumes nothing.
-use Rattle.std.proofs.Common.{List, ℕ, ◌++◌, ◌+◌, ◌-◌, ◌≤◌, ◌≡◌, length, take, drop}
+use Rattle.std.proofs.Common.{List, ℕ, ◌++◌, ◌+◌, ◌-◌, ◌≤◌, ◌<◌, ◌≡◌, length, take, drop}
 use mathlib.Core.Path.{sym, ap, ◌∙◌}
 use native.Mathlib.Omega.{arith}
 use lib.ListN.{length-take, length-drop}
@@ -28,6 +28,9 @@ module _ (part : List ℕ) (at : ℕ) where
   pub taken_inside : {taken : ℕ} → at ≤ length part → taken ≤ length rest → at + taken ≤ length part
   taken_inside h l = omega (arith, rest_length h)
 
+  pub taken_less : {taken : ℕ} → at < length part → (0 < length rest → 0 < taken) → length part - (at + taken) < length part - at
+  taken_less {taken} h s = let e = rest_length (omega arith) in let l = s (omega arith) in omega arith
+
   taken_further : (taken : ℕ) → take at part ++ take taken rest ≡ take (at + taken) part
   taken_further taken = ap (λ (x : List ℕ). take at part ++ take taken x) rest_all ∙ sym (take-add at taken part)
 
@@ -35,6 +38,10 @@ module _ (part : List ℕ) (at : ℕ) where
   pub fed_further : (before : Session) {s next : Session} (taken : ℕ) → s ≡ fed_over before (take at part)
       → next ≡ fed_over s (take taken rest) → next ≡ fed_over before (take (at + taken) part)
   fed_further before taken e f = fed_behind before (take at part) (take taken rest) e f ∙ ap (fed_over before) (taken_further taken)
+
+  -- the part is at its end
+  pub fed_all : (before : Session) {s : Session} → length part ≤ at → s ≡ fed_over before (take at part) → s ≡ fed_over before part
+  fed_all before h e = e ∙ ap (fed_over before) (take_all at part h)
 
   -- what was put out by then, and by the next call
   pub put_further : (before : Session) {s : Session} (taken : ℕ) {out : List ℕ} → s ≡ fed_over before (take at part)
