@@ -208,7 +208,7 @@ pub fn walk_paired(
     vals: &mut [i32],
 ) -> Failed
     requires { (stack_limit ≤ length vals.old) × (places * names ≡ length trace.now) }
-    ensures { (c d : Condition) → ConditionCode c names first.entry.now → ConditionCode d names later.now
+    ensures { (c d : Condition) → ConditionCode c names first.now → ConditionCode d names later.now
         → failed_at result ≡ first_failure (record { first = c; later = some d }) (places_of (states_of places names trace.now)) }
 {
     if places == 0 {
