@@ -2,6 +2,7 @@
 """Says which must-fail edits do not fit the text: each `old:` stands once in its file, after the pairs before it.
 
 usage: tools/edits.py [CRATE ..]     at the top of the repository; of these crates, or of all
+       tools/edits.py --apply EDIT FOLDER     applies the edit to the crate in FOLDER
 
 Prints each edit that does not fit and why; the exit status is 1 where there is one.
 """
@@ -9,8 +10,8 @@ import os
 import sys
 
 
-def misfit(edit, crate):
-    """Why the edit cannot be applied to the crate; None where it can."""
+def edited(edit, crate):
+    """The texts that the edit makes of the crate's files, and why it cannot be applied; None where it can."""
     path, old, pairs, texts, was = None, None, 0, {}, {}
     with open(edit, encoding="utf-8") as f:
         lines = f.read().split("\n")
@@ -22,26 +23,38 @@ def misfit(edit, crate):
         elif line.startswith("new:"):
             new = line[len("new:"):].removeprefix(" ")
             if not path or not old:
-                return "a new: text with no file: or old: before it"
+                return texts, "a new: text with no file: or old: before it"
             if path not in texts:
                 try:
                     with open(os.path.join(crate, path), encoding="utf-8") as f:
                         texts[path] = was[path] = f.read()
                 except FileNotFoundError:
-                    return f"no file {path}"
+                    return texts, f"no file {path}"
             found = texts[path].count(old)
             if found != 1:
-                return f"{found} times in {path}: {old}"
+                return texts, f"{found} times in {path}: {old}"
             texts[path] = texts[path].replace(old, new)
             old, pairs = None, pairs + 1
         elif line.strip() and not line.startswith(("#", "--", "//")):
-            return f"a line that is not read: {line}"
+            return texts, f"a line that is not read: {line}"
     if not pairs:
-        return "no old: and new: pair"
-    return "it changes nothing" if texts == was else None
+        return texts, "no old: and new: pair"
+    return texts, "it changes nothing" if texts == was else None
+
+
+def apply(edit, crate):
+    texts, why = edited(edit, crate)
+    if why:
+        print(why)
+        sys.exit(1)
+    for path, text in texts.items():
+        with open(os.path.join(crate, path), "w", encoding="utf-8") as f:
+            f.write(text)
 
 
 def main():
+    if sys.argv[1:2] == ["--apply"]:
+        return apply(*sys.argv[2:])
     tried = bad = 0
     for name in sys.argv[1:] or sorted(os.listdir("crates")):
         crate = os.path.join("crates", name)
@@ -51,7 +64,7 @@ def main():
                 if not edit.endswith(".edit"):
                     continue
                 tried += 1
-                why = misfit(os.path.join(at, edit), crate)
+                why = edited(os.path.join(at, edit), crate)[1]
                 if why:
                     bad += 1
                     print(f"{at}/{edit}: {why}")
