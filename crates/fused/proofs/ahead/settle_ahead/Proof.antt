@@ -40,7 +40,8 @@ returns-7 c =
     let a = c.args in
     let num = sym c.unsigned_at.ensures ∙ ap unsigned_read c.in-Number.is in
     let low : c.in-Number.n < length a.prev.now = omega (arith, c.if-w-n.false, c.requires.1) in
-    settles a.code.now a.prev.now a.b a.cur.now (omega (arith, c.if-code-at.false)) c.if-code-at-ne22.false _ _ num _ c.settle.result c.in-Kept.is c.settle.ensures.0 c.settle.ensures.1 _
+    let settling = c.if-code-at-ne22.false in
+    settles a.code.now a.prev.now a.b a.cur.now (omega (arith, c.if-code-at.false)) settling _ _ num _ c.settle.result c.in-Kept.is c.settle.ensures.0 c.settle.ensures.1 _
     (λ ns vals e. settle_picked ns a.prev.now vals a.b.walk.held c.in-Number.n a.cur.now e a.b.picked low (not-false _ c.if-not-b.false))
 
 pub settle_ahead_spec : {M : Type 1} → statement M
