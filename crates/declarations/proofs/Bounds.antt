@@ -22,8 +22,10 @@ use Rattle.lexer.specs.Lexer.{token_at, value_of}
 use Rattle.lexer.proofs.Laws.{cond_prop}
 use Rattle.grammar.specs.Parsed.{Parsed, accepted, refused, sign, expected, phrase, followed}
 use Rattle.grammar.specs.Declarations.{in_range, signed_digits, bound_at, start_at}
-use Rattle.lexer.specs.declared.Step.{Step}
-use Rattle.lexer.specs.declared.Step.TheVariants.{Refused}
+use Rattle.lexer.specs.Results.{Step}
+use Rattle.std.specs.Prelude.{Err}
+use Rattle.limits.specs.declared.Refusal.{Refusal}
+use Rattle.limits.specs.Refusals.{number_of, place_of}
 use Rattle.phrases.specs.Inner.Steps.{parsed_of, nothing, value_told}
 use Rattle.declarations.specs.Inner.Ranges.{signed_by}
 use Rattle.declarations.specs.Inner.Bounds.{bounded_number}
@@ -113,10 +115,10 @@ module _ (low high : ℤ) (fl : SFits w32 low) (fh : SFits w32 high) where
 
 -- ---- refusals passed on
 
-pub no_token_lem : {r : Step} {k q : ℕ} → r ≡ Refused k q → k ≡ no_token → parsed_of value_told r ≡ refused no_token q
+pub no_token_lem : {r : Step} {e : Refusal} → r ≡ Err e → k ≡ no_token → parsed_of value_told r ≡ refused no_token q
 no_token_lem g e = rw (g, e)
 
-pub no_sign : {r : Step} {k q : ℕ} (p : Parsed (Unit {0})) → parsed_of nothing r ≡ p → r ≡ Refused k q → (p ≡ refused k q) × (parsed_of value_told r ≡ refused k q)
+pub no_sign : {r : Step} {e : Refusal} (p : Parsed (Unit {0})) → parsed_of nothing r ≡ p → r ≡ Err e → (p ≡ refused (number_of e) (place_of e)) × (parsed_of value_told r ≡ refused (number_of e) (place_of e))
 no_sign p h g = (sym h ∙ ap (parsed_of nothing) g, rw g)
 
 -- ---- bounds that were held in locals
