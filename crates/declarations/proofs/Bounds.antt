@@ -29,8 +29,7 @@ use Rattle.limits.specs.Refusals.{number_of, place_of}
 use Rattle.phrases.specs.Inner.Steps.{parsed_of, nothing, value_told}
 use Rattle.declarations.specs.Inner.Ranges.{signed_by}
 use Rattle.declarations.specs.Inner.Bounds.{bounded_number}
-use Rattle.declarations.specs.declared.Number.{Number}
-use Rattle.declarations.specs.declared.Number.TheVariants.{Is, Outside}
+use Rattle.std.specs.Prelude.{Option, Some, None}
 use Rattle.declarations.proofs.Numbers.{kept, between}
 
 -- ---- tests
@@ -95,8 +94,8 @@ module _ (low high : ℤ) (fl : SFits w32 low) (fh : SFits w32 high) where
     unfolding signed_digits
     no_digits d = rw d
 
-    module _ (v : ℕ) (d : is k digits ≡ true) (hv : v ≡ min (value_of (part text s n)) (2 ^ 32)) {num : Number} (hn : bounded_number num ≡ cond (in_range low high (signed_by neg (pos v))) (some (signed_by neg (pos v))) none) where
-      pub digits_in : {z : ℤ} → num ≡ Is z → accepted z n ≡ signed_digits (in_range low high) (signed_by neg) text k s n
+    module _ (v : ℕ) (d : is k digits ≡ true) (hv : v ≡ min (value_of (part text s n)) (2 ^ 32)) {num : Option ℤ} (hn : bounded_number num ≡ cond (in_range low high (signed_by neg (pos v))) (some (signed_by neg (pos v))) none) where
+      pub digits_in : {z : ℤ} → num ≡ Some z → accepted z n ≡ signed_digits (in_range low high) (signed_by neg) text k s n
       unfolding signed_digits
       digits_in {z} g =
           let p = some_cond (in_range low high (signed_by neg (pos v))) (signed_by neg (pos v)) z (sym (ap bounded_number g) ∙ hn) in
@@ -105,7 +104,7 @@ module _ (low high : ℤ) (fl : SFits w32 low) (fh : SFits w32 high) where
           let w : z ≡ whole neg (value_of (part text s n)) = p.1 ∙ ap (λ (m : ℕ). signed_by neg (pos m)) hv ∙ c.1 i in
           rw (d, c.0 ∙ i, w)
 
-      pub digits_out : num ≡ Outside → refused out_of_limit s ≡ signed_digits (in_range low high) (signed_by neg) text k s n
+      pub digits_out : num ≡ None → refused out_of_limit s ≡ signed_digits (in_range low high) (signed_by neg) text k s n
       unfolding signed_digits
       digits_out g =
           let p = none_cond (in_range low high (signed_by neg (pos v))) (signed_by neg (pos v)) (sym (ap bounded_number g) ∙ hn) in
@@ -153,11 +152,11 @@ module _ (test : ℤ → Bool) (text : List ℕ) (at : ℕ) where
 
 -- ---- the start and the `;`
 
-module _ (low high : ℤ) (s : ℕ) {num : Number} (hn : bounded_number num ≡ cond (in_range low high (pos 0)) (some (pos 0)) none) where
-  pub absent_out : (n : ℕ) → num ≡ Outside → refused out_of_limit s ≡ cond (in_range low high (pos 0)) (accepted (pos 0) n) (refused out_of_limit s)
+module _ (low high : ℤ) (s : ℕ) {num : Option ℤ} (hn : bounded_number num ≡ cond (in_range low high (pos 0)) (some (pos 0)) none) where
+  pub absent_out : (n : ℕ) → num ≡ None → refused out_of_limit s ≡ cond (in_range low high (pos 0)) (accepted (pos 0) n) (refused out_of_limit s)
   absent_out n g = rw (none_cond (in_range low high (pos 0)) (pos 0) (sym (ap bounded_number g) ∙ hn))
 
-  pub absent_in : {z : ℤ} (n : ℕ) → SFits w32 z → num ≡ Is z → accepted (kept z) n ≡ cond (in_range low high (pos 0)) (accepted (pos 0) n) (refused out_of_limit s)
+  pub absent_in : {z : ℤ} (n : ℕ) → SFits w32 z → num ≡ Some z → accepted (kept z) n ≡ cond (in_range low high (pos 0)) (accepted (pos 0) n) (refused out_of_limit s)
   absent_in {z} n f g = let p = some_cond (in_range low high (pos 0)) (pos 0) z (sym (ap bounded_number g) ∙ hn) in rw (p.0, same32 f, p.1)
 
 module _ (text : List ℕ) (low high : ℤ) (at : ℕ) where

@@ -26,13 +26,6 @@ const LOWEST: i32 = -2147483648;
 
 const HIGHEST: i32 = 2147483647;
 
-// A number between its bounds.
-#[derive(Clone, Copy)]
-enum Number {
-    Is(i32),
-    Outside,
-}
-
 // The place after a number, with its value.
 fn valued(at: usize, value: i32) -> Step
     ensures { result ≡ valued_at at value }
@@ -48,19 +41,19 @@ fn valued(at: usize, value: i32) -> Step
     })
 }
 
-fn within(z: i64, low: i32, high: i32) -> Number
+fn within(z: i64, low: i32, high: i32) -> Option<i32>
     ensures { bounded_number result ≡ cond (in_range low high z) (some z) none }
 {
     if low as i64 <= z {
         if z <= high as i64 {
-            return Number::Is(z as i32);
+            return Some(z as i32);
         }
     }
-    Number::Outside
+    None
 }
 
 // The number of that value and sign.
-fn signed(value: u64, negative: bool, low: i32, high: i32) -> Number
+fn signed(value: u64, negative: bool, low: i32, high: i32) -> Option<i32>
     requires { value ≤ 2 ^ 32 }
     ensures { bounded_number result ≡ cond (in_range low high (signed_by negative (pos value))) (some (signed_by negative (pos value))) none }
 {
@@ -88,7 +81,7 @@ fn digits(
         return Err(Refusal::NotAllowed(start));
     }
     let value = lexer::value(lexer::name(text, start, end));
-    let Number::Is(z) = signed(value, negative, low, high) else {
+    let Some(z) = signed(value, negative, low, high) else {
         return Err(Refusal::OutOfLimit(start));
     };
     valued(end, z)
@@ -110,7 +103,7 @@ fn bound_at(text: &[u8], at: usize, low: i32, high: i32) -> Step
 fn absent(place: usize, next: usize, low: i32, high: i32) -> Step
     ensures { parsed_of value_told result ≡ cond (in_range low high (pos 0)) (accepted (pos 0) next) (refused_at out_of_limit place) }
 {
-    let Number::Is(z) = within(0, low, high) else {
+    let Some(z) = within(0, low, high) else {
         return Err(Refusal::OutOfLimit(place));
     };
     valued(next, z)
@@ -171,7 +164,7 @@ fn new_name(text: &[u8], at: usize, starts: &mut [usize], ends: &mut [usize], co
         count,
         lexer::name(text, token.start, token.end),
     );
-    if let Some(_) = known {
+    if known.is_some() {
         return Err(Refusal::WrongName(token.start));
     }
     if lexer::is_over_long(token.start, token.end) {
