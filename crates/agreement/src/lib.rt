@@ -11,6 +11,7 @@ ghost use Rattle.agreement.specs.Inner.Comparison.{compared_of, RepetitionBy};
 ghost use Rattle.agreement.specs.Inner.Spans.{spans_in, spans_of, Spans, SpansRead};
 
 use lexer::Step;
+use limits::Refusal;
 
 // The tokens from `from` up to `to` are wanted at `at`, token by token.
 fn compare_tokens(text: &[u8], from: usize, to: usize, at: usize) -> Step
@@ -20,14 +21,8 @@ fn compare_tokens(text: &[u8], from: usize, to: usize, at: usize) -> Step
     let mut a = from;
     let mut b = at;
     while a < to {
-        let wanted = lexer::token_at(text, a);
-        let Step::Done(token) = wanted else {
-            return wanted;
-        };
-        let found = lexer::token_at(text, b);
-        let Step::Done(token2) = found else {
-            return found;
-        };
+        let token = lexer::token_at(text, a)?;
+        let token2 = lexer::token_at(text, b)?;
         if lexer::same_token(
             text,
             token.kind,
@@ -40,7 +35,7 @@ fn compare_tokens(text: &[u8], from: usize, to: usize, at: usize) -> Step
             a = token.end;
             b = token2.end;
         } else {
-            return Step::Refused(limits::LISTS_DIFFER, token2.start);
+            return Err(Refusal::ListsDiffer(token2.start));
         }
     }
     lexer::reached(b, 0, 0)
@@ -97,14 +92,11 @@ fn compare_sign(text: &[u8], kind: u32, at: usize) -> Step
     requires { kind ≤ last_kind }
     ensures { compared_of result ≡ kind_at text.now (kind_of kind) at }
 {
-    let found = lexer::token_at(text, at);
-    let Step::Done(token) = found else {
-        return found;
-    };
+    let token = lexer::token_at(text, at)?;
     if token.kind == kind {
         return lexer::reached(token.end, 0, 0);
     }
-    Step::Refused(limits::LISTS_DIFFER, token.start)
+    Err(Refusal::ListsDiffer(token.start))
 }
 
 // The sign after a condition: `|` before another, `)` after the last.
@@ -128,15 +120,9 @@ pub fn compare_lists(text: &[u8], from: &[usize], to: &[usize], count: usize, at
     while i < count {
         let first = from[i];
         let last = to[i];
-        let part = compare_part(text, first, last, a);
-        let Step::Done(n) = part else {
-            return part;
-        };
+        let n = compare_part(text, first, last, a)?;
         i += 1;
-        let sign = compare_sign(text, separator(i, count), n.at);
-        let Step::Done(m) = sign else {
-            return sign;
-        };
+        let m = compare_sign(text, separator(i, count), n.at)?;
         a = m.at;
     }
     lexer::reached(a, 0, 0)

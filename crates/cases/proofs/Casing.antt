@@ -26,8 +26,11 @@ use Rattle.expressions.specs.Inner.Steps.{Room}
 use Rattle.agreement.specs.Inner.Spans.{spans_in, spans_of, Spans}
 use Rattle.agreement.proofs.Parts.{spans_none}
 use Rattle.lexer.specs.declared.Place.{Place}
-use Rattle.lexer.specs.declared.Step.{Step}
-use Rattle.lexer.specs.declared.Step.TheVariants.{Refused}
+use Rattle.lexer.specs.Results.{Step}
+use Rattle.std.specs.Prelude.{Err}
+use Rattle.limits.specs.declared.Refusal.{Refusal}
+use Rattle.limits.specs.declared.Refusal.TheVariants.{NoToken, NotAllowed, TooMany}
+use Rattle.limits.specs.Refusals.{number_of, place_of}
 use Rattle.phrases.specs.Inner.Steps.{number_told, Writes}
 use Rattle.phrases.proofs.Writing.{Got, writes, refuses}
 use Rattle.cases.specs.Inner.Kept.{code_of_case, code_of_cases, end_of_condition, Lists}
@@ -148,7 +151,7 @@ pub record Casing (sc : Scope) (w : List ℕ) (limit pick v at to : ℕ) (out₀
 abbrev Answer : (sc : Scope) (w : List ℕ) (limit pick v at to : ℕ) (out₀ from upto out : List ℕ) → Step → Type 0
 Answer sc w limit pick v at to out₀ from upto out r = Writes (code_of_cases pick v) number_told length (cases_from limit sc w [] at) to out₀ out r × Lists (cases_from limit sc w [] at) sc.text from upto
 
-refuse : (sc : Scope) (w : List ℕ) (limit pick v at to : ℕ) (out₀ : List ℕ) {from upto out : List ℕ} {r : Step} {k q : ℕ} → r ≡ Refused k q → cases_from limit sc w [] at ≡ refused k q → Answer sc w limit pick v at to out₀ from upto out r
+refuse : (sc : Scope) (w : List ℕ) (limit pick v at to : ℕ) (out₀ : List ℕ) {from upto out : List ℕ} {r : Step} {e : Refusal} → r ≡ Err e → cases_from limit sc w [] at ≡ refused (number_of e) (place_of e) → Answer sc w limit pick v at to out₀ from upto out r
 refuse sc w limit pick v at to out₀ d e = (refuses d e, record { held = λ cs n f. apart (sym f ∙ e); listed = λ cs n f. apart (sym f ∙ e) })
 
 pub casing_first : (sc : Scope) (w : List ℕ) (limit pick v at to : ℕ) (out₀ from upto : List ℕ) → Room sc.text at to → limit ≤ length from → limit ≤ length upto → limit ≤ case_limit → Casing sc w limit pick v at to out₀ from upto out₀ at to 0
@@ -170,18 +173,18 @@ casing_first sc w limit pick v at to out₀ from upto r hf hu hs = record {
 
 module _ {sc : Scope} {w : List ℕ} {limit pick v at to : ℕ} {out₀ from upto out : List ℕ} {a t count : ℕ} (x : Casing sc w limit pick v at to out₀ from upto out a t count) where
   -- the cases come to a refusal
-  refused_so : {from' upto' out' : List ℕ} {r : Step} {k q : ℕ} → r ≡ Refused k q → cases_from (limit - count) sc w x.done a ≡ refused k q → Answer sc w limit pick v at to out₀ from' upto' out' r
+  refused_so : {from' upto' out' : List ℕ} {r : Step} {e : Refusal} → r ≡ Err e → cases_from (limit - count) sc w x.done a ≡ refused (number_of e) (place_of e) → Answer sc w limit pick v at to out₀ from' upto' out' r
   refused_so d e = refuse sc w limit pick v at to out₀ d (x.same ∙ e)
 
-  pub casing_fault : {from' upto' out' : List ℕ} {r : Step} {k q : ℕ} → r ≡ Refused k q → (token_at sc.text a ≡ fault q) × (k ≡ no_token) → Answer sc w limit pick v at to out₀ from' upto' out' r
-  casing_fault {q = q} d e = refused_so (d ∙ ap (λ (y : ℕ). Refused y q) e.1) (cases_fault sc w x.done a (limit - count) e.0)
+  pub casing_fault : {from' upto' out' : List ℕ} {r : Step} {e : Refusal} → r ≡ Err e → (token_at sc.text a ≡ fault (place_of e)) × (e ≡ NoToken (place_of e)) → Answer sc w limit pick v at to out₀ from' upto' out' r
+  casing_fault {q = q} d e = refused_so (d ∙ ap (λ (y : ℕ). Err e) e.1) (cases_fault sc w x.done a (limit - count) e.0)
 
   module _ {k s n : ℕ} (f : Found sc.text a k s n) where
-    pub casing_other : {from' upto' out' : List ℕ} → is (kind_of k) open_square ≡ false → Answer sc w limit pick v at to out₀ from' upto' out' (Refused not_allowed s)
+    pub casing_other : {from' upto' out' : List ℕ} → is (kind_of k) open_square ≡ false → Answer sc w limit pick v at to out₀ from' upto' out' (Err (NotAllowed s))
     casing_other i = refused_so refl (cases_other sc w x.done a f.read (limit - count) i)
 
     module _ (i : is (kind_of k) open_square ≡ true) where
-      pub casing_full : {from' upto' out' : List ℕ} → count ≡ limit → Answer sc w limit pick v at to out₀ from' upto' out' (Refused too_many s)
+      pub casing_full : {from' upto' out' : List ℕ} → count ≡ limit → Answer sc w limit pick v at to out₀ from' upto' out' (Err (TooMany s))
       casing_full z =
           let e : limit - count ≡ 0 = omega arith in
           refused_so refl (ap (λ (l : ℕ). cases_from l sc w x.done a) e ∙ cases_full sc w x.done a f.read i)
@@ -196,12 +199,12 @@ module _ {sc : Scope} {w : List ℕ} {limit pick v at to : ℕ} {out₀ from upt
         some_left : cases_from (limit - count) sc w x.done a ≡ cases_from (suc (limit - (count + 1))) sc w x.done a
         some_left = let e : limit - count ≡ suc (limit - (count + 1)) = omega (arith, more) in ap (λ (l : ℕ). cases_from l sc w x.done a) e
 
-        pub casing_refused : {from' upto' out' : List ℕ} {r : Step} {l q : ℕ} → r ≡ Refused l q → case_at sc w a n ≡ refused l q → Answer sc w limit pick v at to out₀ from' upto' out' r
+        pub casing_refused : {from' upto' out' : List ℕ} {r : Step} {e : Refusal} → r ≡ Err e → case_at sc w a n ≡ refused (number_of e) (place_of e) → Answer sc w limit pick v at to out₀ from' upto' out' r
         casing_refused d e = refused_so d (some_left ∙ cases_refused sc w x.done a f.read i (limit - (count + 1)) e)
 
         module _ {out' : List ℕ} {o : Place} (g : Got (code_of_case pick v) number_told end_of_condition (case_at sc w a n) t out out' o) where
-          pub casing_behind : {from' upto' out'' : List ℕ} {r : Step} {k q : ℕ} → r ≡ Refused k q → (token_at sc.text o.at ≡ fault q) × (k ≡ no_token) → Answer sc w limit pick v at to out₀ from' upto' out'' r
-          casing_behind {q = q} d h = refused_so (d ∙ ap (λ (y : ℕ). Refused y q) h.1) (some_left ∙ cases_behind sc w x.done a f.read i (limit - (count + 1)) g.is h.0)
+          pub casing_behind : {from' upto' out'' : List ℕ} {r : Step} {e : Refusal} → r ≡ Err e → (token_at sc.text o.at ≡ fault (place_of e)) × (e ≡ NoToken (place_of e)) → Answer sc w limit pick v at to out₀ from' upto' out'' r
+          casing_behind {q = q} d h = refused_so (d ∙ ap (λ (y : ℕ). Err e) h.1) (some_left ∙ cases_behind sc w x.done a f.read i (limit - (count + 1)) g.is h.0)
 
           -- one case more
           abbrev all : List Spanned

@@ -10,8 +10,11 @@ use Rattle.lexer.specs.Token.{Kind, kind_number, close_round, open_square, bar, 
 use Rattle.lexer.specs.Lexer.{token_at}
 use Rattle.lexer.specs.Results.{kind_of, Lies}
 use Rattle.lexer.specs.declared.Place.{Place}
-use Rattle.lexer.specs.declared.Step.{Step}
-use Rattle.lexer.specs.declared.Step.TheVariants.{Done, Refused}
+use Rattle.lexer.specs.Results.{Step}
+use Rattle.std.specs.Prelude.{Ok, Err}
+use Rattle.limits.specs.declared.Refusal.{Refusal}
+use Rattle.limits.specs.declared.Refusal.TheVariants.{NoToken}
+use Rattle.limits.specs.Refusals.{number_of, place_of}
 use Rattle.lexer.proofs.Tokens.{Answers, is_token}
 use Rattle.semantics.specs.Program.{Condition}
 use Rattle.grammar.specs.Parsed.{Parsed, accepted, refused, and_then, sign, expected, phrase, followed}
@@ -32,7 +35,7 @@ pub record Found (text : List ℕ) (at k s n : ℕ) : Type 0 where
   pub read : token_at text at ≡ token (kind_of k) s n
   pub lies : Lies (length text) at k s n
 
-pub found_token : (text : List ℕ) (at : ℕ) {t : Step} {x : Place} → Answers text at t → t ≡ Done x → Found text at x.kind x.start x.end
+pub found_token : (text : List ℕ) (at : ℕ) {t : Step} {x : Place} → Answers text at t → t ≡ Ok x → Found text at x.kind x.start x.end
 found_token text at {t} {x} a e = let f = is_token text at t a x e in record { read = f.0; lies = f.1 }
 
 -- behind it there is as much room
@@ -98,7 +101,7 @@ listing_first r = record { done = []; same = refl; room = r }
 
 module _ {sc : Scope} {at a left : ℕ} (w : Listing sc at a left) where
   -- ... comes to a refusal
-  pub listing_fault : {r : Step} {k q : ℕ} → r ≡ Refused k q → (token_at sc.text a ≡ fault q) × (k ≡ no_token) → parsed_of nothing r ≡ place_only (plain_list sc at)
+  pub listing_fault : {r : Step} {e : Refusal} → r ≡ Err e → (token_at sc.text a ≡ fault (place_of e)) × (e ≡ NoToken (place_of e)) → parsed_of nothing r ≡ place_only (plain_list sc at)
   listing_fault d e = rw (d, e.1) (sym (plain_refused sc at (w.same ∙ list_fault sc w.done a left e.0)))
 
   module _ {k s n : ℕ} (f : Found sc.text a k s n) where
@@ -116,7 +119,7 @@ module _ {sc : Scope} {at a left : ℕ} (w : Listing sc at a left) where
       listing_room = record { short = w.room.short; within = f.lies.within w.room.within; room = omega arith }
 
       module _ (i : is (kind_of k) open_square ≡ true) where
-        pub listing_refused : {s : Step} {l q : ℕ} → s ≡ Refused l q → Refuses sc.text (listed sc n) l q → parsed_of nothing s ≡ place_only (plain_list sc at)
+        pub listing_refused : {s : Step} {e : Refusal} → s ≡ Err e → Refuses sc.text (listed sc n) (number_of e) (place_of e) → parsed_of nothing s ≡ place_only (plain_list sc at)
         listing_refused d r = rw d (sym (plain_refused sc at (w.same ∙ (some_left ∙ list_refused sc w.done a f.read (left - 1) i r))))
 
         module _ {before after : List ℕ} {h : Place} {t : ℕ} (x : Accepted sc.text bytes_c (listed sc n) 0 before after h t) where

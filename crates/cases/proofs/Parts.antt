@@ -6,8 +6,10 @@ use Rattle.limits.specs.Limits.{no_token}
 use Rattle.lexer.specs.Token.{TokenRead, token, fault}
 use Rattle.lexer.specs.Lexer.{token_at}
 use Rattle.lexer.specs.declared.Place.{Place}
-use Rattle.lexer.specs.declared.Step.{Step}
-use Rattle.lexer.specs.declared.Step.TheVariants.{Refused}
+use Rattle.lexer.specs.Results.{Step}
+use Rattle.std.specs.Prelude.{Err}
+use Rattle.limits.specs.declared.Refusal.{Refusal}
+use Rattle.limits.specs.Refusals.{number_of, place_of}
 use Rattle.grammar.specs.Parsed.{Parsed, accepted, refused, and_then, on_token, Wanted, expected, phrase}
 use Rattle.grammar.proofs.Combine.{apart, same_end}
 use Rattle.phrases.specs.Inner.Steps.{Writes}
@@ -17,7 +19,7 @@ use Rattle.expressions.proofs.Steps.{Refuses, refused_by}
 use Rattle.cases.specs.Inner.Places.{place_only}
 
 -- a refusal of an expression or a condition, passed on
-pub not_read : {A B C : Type 0} {bytes : A → List ℕ} {told : Place → C} {tells : A → C} {p : Parsed A} {to : ℕ} {before after : List ℕ} {text : List ℕ} {code : B → List ℕ} {w : Parsed B} {u : ℕ} {b a : List ℕ} {r : Step} {k q : ℕ} → Parses text code w u b a r → r ≡ Refused k q → (Refuses text w k q → p ≡ refused k q) → Writes bytes told tells p to before after r
+pub not_read : {A B C : Type 0} {bytes : A → List ℕ} {told : Place → C} {tells : A → C} {p : Parsed A} {to : ℕ} {before after : List ℕ} {text : List ℕ} {code : B → List ℕ} {w : Parsed B} {u : ℕ} {b a : List ℕ} {r : Step} {e : Refusal} → Parses text code w u b a r → r ≡ Err e → (Refuses text w (number_of e) (place_of e) → p ≡ refused (number_of e) (place_of e)) → Writes bytes told tells p to before after r
 not_read c f g = refuses f (g (refused_by c f))
 
 -- ---- what goes on by reading a token is refused where what stands behind the first part is none

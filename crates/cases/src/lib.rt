@@ -18,6 +18,7 @@ ghost use Rattle.cases.specs.Inner.Kept.{code_of_case, code_of_cases, end_of_con
 use bytecode::opcode;
 use expressions::scope::Names;
 use lexer::Step;
+use limits::Refusal;
 
 // The variable of a rule: its name stands from `start` to `end`.
 #[derive(Clone, Copy)]
@@ -44,23 +45,11 @@ fn case(
     requires id_lt_name_limit { w.id < name_limit }
     ensures { (from : ℕ) → Writes (code_of_case pick w.id) number_told end_of_condition (case_at (scope_of text.now starts.now ends.now names) (part text.now w.start w.end) from at) to out.old out.new result }
 {
-    let first = conditions::listed(text, starts, ends, names, at, out, to);
-    let Step::Done(condition) = first else {
-        return first;
-    };
-    let opened = phrases::case_value_opening(text, condition.at, w.start, w.end);
-    let Step::Done(a) = opened else {
-        return opened;
-    };
+    let condition = conditions::listed(text, starts, ends, names, at, out, to)?;
+    let a = phrases::case_value_opening(text, condition.at, w.start, w.end)?;
     let u = leb128::put_byte(out, condition.to, opcode::GATE);
-    let second = expressions::whole_expression(text, starts, ends, names, a.at, out, u);
-    let Step::Done(value) = second else {
-        return second;
-    };
-    let closed = phrases::expect(text, value.at, lexer::CLOSE_ROUND);
-    let Step::Done(b) = closed else {
-        return closed;
-    };
+    let value = expressions::whole_expression(text, starts, ends, names, a.at, out, u)?;
+    let b = phrases::expect(text, value.at, lexer::CLOSE_ROUND)?;
     let v = bytecode::put_instruction(out, value.to, pick, w.id as u64);
     lexer::reached(b.at, v, condition.at)
 }
@@ -91,27 +80,18 @@ pub fn cases(
     let mut t = to;
     let mut count = 0;
     loop {
-        let read = lexer::token_at(text, a);
-        let Step::Done(token) = read else {
-            return read;
-        };
+        let token = lexer::token_at(text, a)?;
         if token.kind != lexer::OPEN_SQUARE {
-            return Step::Refused(limits::NOT_ALLOWED, token.start);
+            return Err(Refusal::NotAllowed(token.start));
         }
         if count == limit {
-            return Step::Refused(limits::TOO_MANY, token.start);
+            return Err(Refusal::TooMany(token.start));
         }
-        let one = case(text, starts, ends, names, w, pick, token.end, out, t);
-        let Step::Done(b) = one else {
-            return one;
-        };
+        let b = case(text, starts, ends, names, w, pick, token.end, out, t)?;
         from[count] = a;
         upto[count] = b.number;
         count += 1;
-        let next = lexer::token_at(text, b.at);
-        let Step::Done(after) = next else {
-            return next;
-        };
+        let after = lexer::token_at(text, b.at)?;
         if after.kind != lexer::BAR {
             return lexer::reached(b.at, b.to, count);
         }
@@ -130,20 +110,14 @@ fn plain_list(text: &[u8], starts: &[usize], ends: &[usize], names: Names, at: u
     let mut a = at;
     let mut left = limits::CASE_LIMIT;
     loop {
-        let read = lexer::token_at(text, a);
-        let Step::Done(bracket) = read else {
-            return read;
-        };
+        let bracket = lexer::token_at(text, a)?;
         if bracket.kind != lexer::OPEN_SQUARE {
-            return Step::Refused(limits::NOT_ALLOWED, bracket.start);
+            return Err(Refusal::NotAllowed(bracket.start));
         }
         if left == 0 {
-            return Step::Refused(limits::TOO_MANY, bracket.start);
+            return Err(Refusal::TooMany(bracket.start));
         }
-        let one = conditions::listed(text, starts, ends, names, bracket.end, &mut nothing, 0);
-        let Step::Done(behind) = one else {
-            return one;
-        };
+        let behind = conditions::listed(text, starts, ends, names, bracket.end, &mut nothing, 0)?;
         if behind.kind != lexer::BAR {
             return phrases::expect(text, behind.at, lexer::CLOSE_ROUND);
         }
@@ -157,7 +131,7 @@ fn first_found(read: Step, m: usize) -> Step
     ensures { (p : Parsed (List Condition)) → parsed_of nothing read ≡ place_only p → parsed_of nothing result ≡ place_only (first_found p (differs m)) }
 {
     let Step::Refused(k, p) = read else {
-        return Step::Refused(limits::LISTS_DIFFER, m);
+        return Err(Refusal::ListsDiffer(m));
     };
     if p < m {
         return read;
@@ -167,7 +141,7 @@ fn first_found(read: Step, m: usize) -> Step
             return read;
         }
     }
-    Step::Refused(limits::LISTS_DIFFER, m)
+    Err(Refusal::ListsDiffer(m))
 }
 
 // The no-change formula's list and its closing bracket, where the list of the change formula, which was read, is kept in `from` and

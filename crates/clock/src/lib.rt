@@ -38,10 +38,10 @@ fn fill_named(
 {
     let found = lexer::find(text, starts, ends, row.len(), name);
     match found {
-        Found::At(id) => {
+        Some(id) => {
             row[id] = value;
         }
-        Found::Nothing => {}
+        None => {}
     }
 }
 

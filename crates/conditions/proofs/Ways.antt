@@ -21,8 +21,9 @@ use Rattle.grammar.proofs.Growth.{Grown, not_end, connect_code, ands-end, ors-en
 use Rattle.lexer.specs.declared.Place.{Place}
 use Rattle.expressions.specs.declared.scope.Names.{Names}
 use Rattle.expressions.specs.Inner.Scopes.{scope_of, Declared}
-use Rattle.lexer.specs.declared.Step.{Step}
-use Rattle.lexer.specs.declared.Step.TheVariants.{Done, Refused}
+use Rattle.lexer.specs.Results.{Step}
+use Rattle.std.specs.Prelude.{Ok, Err}
+use Rattle.limits.specs.declared.Refusal.{Refusal}
 use Rattle.expressions.specs.Inner.Steps.{step_at, looked_ahead, Parses, Room}
 use Rattle.expressions.specs.Inner.Readers.{Codes, StandsAt, closed_step}
 use Rattle.expressions.proofs.Steps.{Refuses, refused_now, told, untold, up_to, Accepted, accepted_by, accepts_up_to, answers, same_part, passed, then_refused, ahead_at, ahead_stands, closing, closed_parses, one_more, room_fits, room_after, room_more, room_at}
@@ -162,7 +163,7 @@ module _ (text starts ends : List ℕ) (names : Names) (left at : ℕ) where
         go (fault q) e = atom_fault q e ∙ sym (comparison-fault q e)
 
   -- `ahead` read the token h there
-  module _ (to : ℕ) {r : Step} {h : Place} (d : r ≡ Done h) (e : r ≡ step_at (token_at text at) at to) where
+  module _ (to : ℕ) {r : Step} {h : Place} (d : r ≡ Ok h) (e : r ≡ step_at (token_at text at) at to) where
     first : StandsAt text h
     first = ahead_stands text at to d e
 
@@ -175,10 +176,10 @@ module _ (text starts ends : List ℕ) (names : Names) (left at : ℕ) where
       unfolding inverted
       inverted_square = rw (← ahead_at text at to d e, first.read, told first open_square m)
 
-      pub inverted_refuses : {k q l : ℕ} {front last : List ℕ} → p ≡ Refused k q → Parses text bytes_c (inverted_in left sc at) l front last p
+      pub inverted_refuses : {x : Refusal} {l : ℕ} {front last : List ℕ} → p ≡ Err x → Parses text bytes_c (inverted_in left sc at) l front last p
       inverted_refuses i = same_part inverted_square (passed c i opposite_refuses)
 
-      pub inverted_accepts : {l : Place} {x : ℕ} {last : List ℕ} → p ≡ Done l → (x ≡ l.to + 1) × (last ≡ set after l.to 16) → Parses text bytes_c (inverted_in left sc at) v before last (Done (up_to l x))
+      pub inverted_accepts : {l : Place} {x : ℕ} {last : List ℕ} → p ≡ Ok l → (x ≡ l.to + 1) × (last ≡ set after l.to 16) → Parses text bytes_c (inverted_in left sc at) v before last (Ok (up_to l x))
       inverted_accepts i f = same_part inverted_square (accepts_up_to refl (opposite_accepts (accepted_by c i) f.0 f.1))
 
 -- ---- brackets
@@ -213,7 +214,7 @@ module _ {text starts ends : List ℕ} {names : Names} (d : Declared starts ends
   conjunction_grows = conjunction_grown _ (few_names text d) left at r.within
 
 -- behind `[c]`, whose bracket is the token h, there is room for a byte
-pub square_fits : (text starts ends : List ℕ) (names : Names) (left at to : ℕ) {u : ℕ} {before after : List ℕ} {p r : Step} {g h : Place} → p ≡ Done g → Parses text bytes_c (square left (scope_of text starts ends names) h.start h.end) u before after p → r ≡ Done h → r ≡ step_at (token_at text at) at to → h.kind ≡ kind_number open_square → Declared starts ends names → Room text at u → g.to < 2 ^ 32
+pub square_fits : (text starts ends : List ℕ) (names : Names) (left at to : ℕ) {u : ℕ} {before after : List ℕ} {p r : Step} {g h : Place} → p ≡ Ok g → Parses text bytes_c (square left (scope_of text starts ends names) h.start h.end) u before after p → r ≡ Ok h → r ≡ step_at (token_at text at) at to → h.kind ≡ kind_number open_square → Declared starts ends names → Room text at u → g.to < 2 ^ 32
 unfolding is kind_number
 square_fits text starts ends names left at to {u = u} {h = h} i c d e m declared room =
     let k = ahead_stands text at to d e in

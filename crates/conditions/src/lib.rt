@@ -13,6 +13,7 @@ ghost use Rattle.conditions.specs.Inner.Readers.{comparison_in, inverted_in, ato
 use bytecode::opcode;
 use expressions::scope::Names;
 use lexer::Step;
+use limits::Refusal;
 
 // The bytes of `~` and `[`.
 const TILDE_BYTE: u8 = 126;
@@ -77,20 +78,16 @@ fn comparison(
     requires room { Room text.now at to }
     ensures { Parses text.now bytes_c (comparison_in left (scope_of text.now starts.now ends.now names) at) to out.old out.new result }
 {
-    let first = expressions::expression(text, starts, ends, names, at, left, out, to);
-    let Step::Done(sign) = first else {
-        return first;
-    };
+    let sign = expressions::expression(text, starts, ends, names, at, left, out, to)?;
     let code = comparison_code(sign.kind);
     if code == 0 {
-        return Step::Refused(limits::NOT_ALLOWED, sign.start);
+        return Err(Refusal::NotAllowed(sign.start));
     }
-    let second = expressions::expression(text, starts, ends, names, sign.end, left, out, sign.to);
-    let Step::Done(mut behind) = second else {
-        return second;
-    };
+    let mut behind = expressions::expression(
+        text, starts, ends, names, sign.end, left, out, sign.to,
+    )?;
     behind.to = leb128::put_byte(out, behind.to, code);
-    Step::Done(behind)
+    Ok(behind)
 }
 
 // Conjunctions with `|` between them.
@@ -114,14 +111,11 @@ fn condition(
     let mut t = to;
     let mut code: u8 = 0;
     loop {
-        let part = conjunction(text, starts, ends, names, a, left, out, t);
-        let Step::Done(mut behind) = part else {
-            return part;
-        };
+        let mut behind = conjunction(text, starts, ends, names, a, left, out, t)?;
         behind.to = expressions::put_operator(out, behind.to, code);
         code = or_code(behind.kind);
         if code == 0 {
-            return Step::Done(behind);
+            return Ok(behind);
         }
         a = behind.end;
         t = behind.to;
@@ -149,14 +143,11 @@ fn conjunction(
     let mut t = to;
     let mut code: u8 = 0;
     loop {
-        let part = atom(text, starts, ends, names, a, left, out, t);
-        let Step::Done(mut behind) = part else {
-            return part;
-        };
+        let mut behind = atom(text, starts, ends, names, a, left, out, t)?;
         behind.to = expressions::put_operator(out, behind.to, code);
         code = and_code(behind.kind);
         if code == 0 {
-            return Step::Done(behind);
+            return Ok(behind);
         }
         a = behind.end;
         t = behind.to;
@@ -206,21 +197,15 @@ fn inverted(
     requires room { Room text.now at to }
     ensures { Parses text.now bytes_c (inverted_in left (scope_of text.now starts.now ends.now names) at) to out.old out.new result }
 {
-    let read = expressions::ahead(text, at, to);
-    let Step::Done(here) = read else {
-        return read;
-    };
+    let here = expressions::ahead(text, at, to)?;
     if here.kind == lexer::OPEN_SQUARE {
-        let inner = square(
+        let mut behind = square(
             text, starts, ends, names, here.start, here.end, left, out, to,
-        );
-        let Step::Done(mut behind) = inner else {
-            return inner;
-        };
+        )?;
         behind.to = leb128::put_byte(out, behind.to, opcode::NOT);
-        return Step::Done(behind);
+        return Ok(behind);
     }
-    Step::Refused(limits::NOT_ALLOWED, here.start)
+    Err(Refusal::NotAllowed(here.start))
 }
 
 // A condition in the bracket from `start` to `end`, with `left` brackets left to open.
@@ -241,7 +226,7 @@ fn square(
     ensures { Parses text.now bytes_c (square left (scope_of text.now starts.now ends.now names) start end) to out.old out.new result }
 {
     if left == 0 {
-        return Step::Refused(limits::TOO_MANY, start);
+        return Err(Refusal::TooMany(start));
     }
     let inner = condition(text, starts, ends, names, end, left - 1, out, to);
     expressions::closed(text, inner, lexer::CLOSE_SQUARE)

@@ -22,13 +22,14 @@ use Rattle.lexer.specs.Lexer.{token_at, value_of}
 use Rattle.lexer.proofs.Laws.{cond_prop}
 use Rattle.grammar.specs.Parsed.{Parsed, accepted, refused, sign, expected, phrase, followed}
 use Rattle.grammar.specs.Declarations.{in_range, signed_digits, bound_at, start_at}
-use Rattle.lexer.specs.declared.Step.{Step}
-use Rattle.lexer.specs.declared.Step.TheVariants.{Refused}
+use Rattle.lexer.specs.Results.{Step}
+use Rattle.std.specs.Prelude.{Err}
+use Rattle.limits.specs.declared.Refusal.{Refusal}
+use Rattle.limits.specs.Refusals.{number_of, place_of}
 use Rattle.phrases.specs.Inner.Steps.{parsed_of, nothing, value_told}
 use Rattle.declarations.specs.Inner.Ranges.{signed_by}
 use Rattle.declarations.specs.Inner.Bounds.{bounded_number}
-use Rattle.declarations.specs.declared.Number.{Number}
-use Rattle.declarations.specs.declared.Number.TheVariants.{Is, Outside}
+use Rattle.std.specs.Prelude.{Option, Some, None}
 use Rattle.declarations.proofs.Numbers.{kept, between}
 
 -- ---- tests
@@ -93,8 +94,8 @@ module _ (low high : ℤ) (fl : SFits w32 low) (fh : SFits w32 high) where
     unfolding signed_digits
     no_digits d = rw d
 
-    module _ (v : ℕ) (d : is k digits ≡ true) (hv : v ≡ min (value_of (part text s n)) (2 ^ 32)) {num : Number} (hn : bounded_number num ≡ cond (in_range low high (signed_by neg (pos v))) (some (signed_by neg (pos v))) none) where
-      pub digits_in : {z : ℤ} → num ≡ Is z → accepted z n ≡ signed_digits (in_range low high) (signed_by neg) text k s n
+    module _ (v : ℕ) (d : is k digits ≡ true) (hv : v ≡ min (value_of (part text s n)) (2 ^ 32)) {num : Option ℤ} (hn : bounded_number num ≡ cond (in_range low high (signed_by neg (pos v))) (some (signed_by neg (pos v))) none) where
+      pub digits_in : {z : ℤ} → num ≡ Some z → accepted z n ≡ signed_digits (in_range low high) (signed_by neg) text k s n
       unfolding signed_digits
       digits_in {z} g =
           let p = some_cond (in_range low high (signed_by neg (pos v))) (signed_by neg (pos v)) z (sym (ap bounded_number g) ∙ hn) in
@@ -103,7 +104,7 @@ module _ (low high : ℤ) (fl : SFits w32 low) (fh : SFits w32 high) where
           let w : z ≡ whole neg (value_of (part text s n)) = p.1 ∙ ap (λ (m : ℕ). signed_by neg (pos m)) hv ∙ c.1 i in
           rw (d, c.0 ∙ i, w)
 
-      pub digits_out : num ≡ Outside → refused out_of_limit s ≡ signed_digits (in_range low high) (signed_by neg) text k s n
+      pub digits_out : num ≡ None → refused out_of_limit s ≡ signed_digits (in_range low high) (signed_by neg) text k s n
       unfolding signed_digits
       digits_out g =
           let p = none_cond (in_range low high (signed_by neg (pos v))) (signed_by neg (pos v)) (sym (ap bounded_number g) ∙ hn) in
@@ -113,10 +114,10 @@ module _ (low high : ℤ) (fl : SFits w32 low) (fh : SFits w32 high) where
 
 -- ---- refusals passed on
 
-pub no_token_lem : {r : Step} {k q : ℕ} → r ≡ Refused k q → k ≡ no_token → parsed_of value_told r ≡ refused no_token q
+pub no_token_lem : {r : Step} {e : Refusal} → r ≡ Err e → k ≡ no_token → parsed_of value_told r ≡ refused no_token q
 no_token_lem g e = rw (g, e)
 
-pub no_sign : {r : Step} {k q : ℕ} (p : Parsed (Unit {0})) → parsed_of nothing r ≡ p → r ≡ Refused k q → (p ≡ refused k q) × (parsed_of value_told r ≡ refused k q)
+pub no_sign : {r : Step} {e : Refusal} (p : Parsed (Unit {0})) → parsed_of nothing r ≡ p → r ≡ Err e → (p ≡ refused (number_of e) (place_of e)) × (parsed_of value_told r ≡ refused (number_of e) (place_of e))
 no_sign p h g = (sym h ∙ ap (parsed_of nothing) g, rw g)
 
 -- ---- bounds that were held in locals
@@ -151,11 +152,11 @@ module _ (test : ℤ → Bool) (text : List ℕ) (at : ℕ) where
 
 -- ---- the start and the `;`
 
-module _ (low high : ℤ) (s : ℕ) {num : Number} (hn : bounded_number num ≡ cond (in_range low high (pos 0)) (some (pos 0)) none) where
-  pub absent_out : (n : ℕ) → num ≡ Outside → refused out_of_limit s ≡ cond (in_range low high (pos 0)) (accepted (pos 0) n) (refused out_of_limit s)
+module _ (low high : ℤ) (s : ℕ) {num : Option ℤ} (hn : bounded_number num ≡ cond (in_range low high (pos 0)) (some (pos 0)) none) where
+  pub absent_out : (n : ℕ) → num ≡ None → refused out_of_limit s ≡ cond (in_range low high (pos 0)) (accepted (pos 0) n) (refused out_of_limit s)
   absent_out n g = rw (none_cond (in_range low high (pos 0)) (pos 0) (sym (ap bounded_number g) ∙ hn))
 
-  pub absent_in : {z : ℤ} (n : ℕ) → SFits w32 z → num ≡ Is z → accepted (kept z) n ≡ cond (in_range low high (pos 0)) (accepted (pos 0) n) (refused out_of_limit s)
+  pub absent_in : {z : ℤ} (n : ℕ) → SFits w32 z → num ≡ Some z → accepted (kept z) n ≡ cond (in_range low high (pos 0)) (accepted (pos 0) n) (refused out_of_limit s)
   absent_in {z} n f g = let p = some_cond (in_range low high (pos 0)) (pos 0) z (sym (ap bounded_number g) ∙ hn) in rw (p.0, same32 f, p.1)
 
 module _ (text : List ℕ) (low high : ℤ) (at : ℕ) where

@@ -9,8 +9,9 @@ use Rattle.grammar.specs.Parsed.{Parsed, accepted, refused, and_then}
 use Rattle.grammar.specs.Declarations.{spellings, new_name, declaration}
 use Rattle.grammar.specs.Inner.Bytes.{header}
 use Rattle.lexer.specs.declared.Place.{Place}
-use Rattle.lexer.specs.declared.Step.{Step}
-use Rattle.lexer.specs.declared.Step.TheVariants.{Done, Refused}
+use Rattle.lexer.specs.Results.{Step}
+use Rattle.std.specs.Prelude.{Ok, Err}
+use Rattle.limits.specs.declared.Refusal.{Refusal}
 use Rattle.phrases.specs.Inner.Steps.{parsed_of, nothing, answered, Writes}
 use Rattle.phrases.proofs.Writing.{got, refuses}
 use Rattle.grammar.proofs.Combine.{then_then, never}
@@ -35,7 +36,7 @@ unfolding declaration declared_range
 named-range text names at w n e = rw e (simp then_then)
 
 -- no more than fifteen bytes are written
-pub few_bytes : (p : Parsed Range) (to : ℕ) (before after' : List ℕ) (r : Step) (x : Place) → Writes range_bytes nothing (λ _. tt) p to before after' r → r ≡ Done x → x.to ≤ to + 15
+pub few_bytes : (p : Parsed Range) (to : ℕ) (before after' : List ℕ) (r : Step) (x : Place) → Writes range_bytes nothing (λ _. tt) p to before after' r → r ≡ Ok x → x.to ≤ to + 15
 few_bytes p to before after' r x h g = let a = got h g in omega (arith, a.ended, range_bytes_lem a.tree)
 
 -- ---- the answer
@@ -44,15 +45,15 @@ pub spellings_more : (names : List Name) (x : Name) → spellings (names ++ (x �
 spellings_more [] x = refl
 spellings_more (y ∷ names) x = ap (λ (l : List (List ℕ)). y.spelling ∷ l) (spellings_more names x)
 
-pub step_refused : (k p : ℕ) (x : Place) {A : Type 0} → Refused k p ≡ Done x → A
+pub step_refused : (e : Refusal) (x : Place) {A : Type 0} → Err e ≡ Ok x → A
 step_refused k p x h = let z : ◌≡◌ {A = ℕ} 0 1 = cc in absurd (omega arith)
 
 module _ (text starts ends : List ℕ) (at to count : ℕ) (before mid starts' ends' : List ℕ) where
   abbrev Answers : Step → Type 0
-  Answers r = ((names : List Name) → TableHolds text starts ends count names → DeclaresOne text names at to count before mid ends starts' ends' r) × ((x : Place) → r ≡ Done x → (count < 64) × (x.to ≤ to + 15))
+  Answers r = ((names : List Name) → TableHolds text starts ends count names → DeclaresOne text names at to count before mid ends starts' ends' r) × ((x : Place) → r ≡ Ok x → (count < 64) × (x.to ≤ to + 15))
 
   module _ {named : Step} (h : (names : List Name) → TableHolds text starts ends count names → Names text names at count ends starts' ends' named) where
-    pub unnamed : {k q : ℕ} → named ≡ Refused k q → Answers named
+    pub unnamed : {e : Refusal} → named ≡ Err e → Answers named
     unnamed {k} {q} g = (
       λ names held.
           let e = no_new_name text names at k q (refused_then (λ (x : List ℕ). tt {0}) (new_name text names at) k q (sym (h names held).answer ∙ ap (parsed_of nothing) g)) in
@@ -60,7 +61,7 @@ module _ (text starts ends : List ℕ) (at to count : ℕ) (before mid starts' e
       λ x f. step_refused k q x (sym g ∙ f),
     )
 
-    module _ {next : Place} (g : named ≡ Done next) {r : Step} (w : Writes range_bytes nothing (λ _. tt) (declared_range text next.at) to before mid r) where
+    module _ {next : Place} (g : named ≡ Ok next) {r : Step} (w : Writes range_bytes nothing (λ _. tt) (declared_range text next.at) to before mid r) where
       module _ (names : List Name) (held : TableHolds text starts ends count names) where
         new : After (λ (x : List ℕ). tt {0}) (new_name text names at) tt next.at
         new = after (λ (x : List ℕ). tt {0}) (new_name text names at) tt next.at (sym (h names held).answer ∙ ap (parsed_of nothing) g)

@@ -15,8 +15,10 @@ use Rattle.grammar.specs.Declarations.{declaration, declarations_from, declarati
 use Rattle.grammar.specs.Inner.Bytes.{header}
 use Rattle.grammar.proofs.Combine.{token_prop, then_prop}
 use Rattle.lexer.specs.declared.Place.{Place}
-use Rattle.lexer.specs.declared.Step.{Step}
-use Rattle.lexer.specs.declared.Step.TheVariants.{Done, Refused}
+use Rattle.lexer.specs.Results.{Step}
+use Rattle.std.specs.Prelude.{Ok, Err}
+use Rattle.limits.specs.declared.Refusal.{Refusal}
+use Rattle.limits.specs.Refusals.{number_of, place_of}
 use Rattle.phrases.proofs.Writing.{got, refused_part}
 use Rattle.declarations.specs.Inner.Tables.{TableHolds, RangesBehind, header_after, DeclaresAll}
 use Rattle.declarations.proofs.Loop.{header_append}
@@ -41,7 +43,7 @@ pub record AllDeclared (word : Kind) (text : List ℕ) (names : List Name) (at t
   pub stand : RangesBehind text ends₀ 0 names → RangesBehind text ends 0 all
 
 module _ (word : Kind) (text : List ℕ) (names : List Name) (at to : ℕ) (before after' ends₀ starts ends : List ℕ) {r : Step} (d : DeclaresAll word text names at to before after' ends₀ starts ends r) where
-  pub all_declared : {x : Place} → r ≡ Done x → AllDeclared word text names at to before after' ends₀ starts ends x.at x.to x.number
+  pub all_declared : {x : Place} → r ≡ Ok x → AllDeclared word text names at to before after' ends₀ starts ends x.at x.to x.number
   all_declared {x} g =
       let a = got d.writes g in
       record {
@@ -54,7 +56,7 @@ module _ (word : Kind) (text : List ℕ) (names : List Name) (at to : ℕ) (befo
         stand = λ h. d.ranged h a.tree x.at a.is;
       }
 
-  pub not_declared : {k p : ℕ} → r ≡ Refused k p → declarations word text names at ≡ refused k p
+  pub not_declared : {e : Refusal} → r ≡ Err e → declarations word text names at ≡ refused (number_of e) (place_of e)
   not_declared g = refused_part d.writes g
 
 -- ---- names are added behind those declared before

@@ -11,8 +11,11 @@ use Rattle.lexer.specs.Token.{Kind, is, token, fault}
 use Rattle.lexer.specs.Lexer.{token_at}
 use Rattle.lexer.specs.Results.{reached_at}
 use Rattle.lexer.specs.declared.Place.{Place}
-use Rattle.lexer.specs.declared.Step.{Step}
-use Rattle.lexer.specs.declared.Step.TheVariants.{Done, Refused}
+use Rattle.lexer.specs.Results.{Step}
+use Rattle.std.specs.Prelude.{Ok, Err}
+use Rattle.limits.specs.declared.Refusal.{Refusal}
+use Rattle.limits.specs.declared.Refusal.TheVariants.{NoToken}
+use Rattle.limits.specs.Refusals.{number_of, place_of}
 use Rattle.semantics.specs.Program.{Name}
 use Rattle.grammar.specs.Parsed.{accepted, refused}
 use Rattle.grammar.specs.Declarations.{declaration, declarations_from, declarations}
@@ -74,12 +77,12 @@ module _ (word : Kind) (text : List ℕ) (names : List Name) (at to : ℕ) (befo
     wrote = refl;
   }
 
-  refuses : (after' ends₀ starts ends : List ℕ) {r : Step} (k p : ℕ) → r ≡ Refused k p → declarations word text names at ≡ refused k p → DeclaresAll word text names at to before after' ends₀ starts ends r
+  refuses : (after' ends₀ starts ends : List ℕ) {r : Step} (e : Refusal) → r ≡ Err e → declarations word text names at ≡ refused (number_of e) (place_of e) → DeclaresAll word text names at to before after' ends₀ starts ends r
   refuses after' ends₀ starts ends k p h e = record { writes = W.refuses h e; named = λ all n f. never k p n all (sym e ∙ f); ranged = λ stand all n f. never k p n all (sym e ∙ f) }
 
   module _ (ends₀ starts ends after' : List ℕ) (a known t : ℕ) (g : Going word text names at to before ends₀ starts ends after' a known t) where
-    pub stops_fault : {r : Step} {k p : ℕ} → r ≡ Refused k p → (token_at text a ≡ fault p) × (k ≡ no_token) → DeclaresAll word text names at to before after' ends₀ starts ends r
-    stops_fault {p = p} h e = refuses after' ends₀ starts ends no_token p (h ∙ ap (λ (x : ℕ). Refused x p) e.1) (g.goes ∙ turn_fault g.fuel word text (names ++ g.new) a p e.0)
+    pub stops_fault : {r : Step} {e : Refusal} → r ≡ Err e → (token_at text a ≡ fault (place_of e)) × (e ≡ NoToken (place_of e)) → DeclaresAll word text names at to before after' ends₀ starts ends r
+    stops_fault {p = p} h e = refuses after' ends₀ starts ends no_token p (h ∙ ap (λ (x : ℕ). Err e) e.1) (g.goes ∙ turn_fault g.fuel word text (names ++ g.new) a p e.0)
 
     module _ (k : Kind) (s n : ℕ) (e : token_at text a ≡ token k s n) where
       pub ends_all : {r : Step} → r ≡ reached_at a t known → is k word ≡ false → DeclaresAll word text names at to before after' ends₀ starts ends r
@@ -95,10 +98,10 @@ module _ (word : Kind) (text : List ℕ) (names : List Name) (at to : ℕ) (befo
 
       module _ (f : is k word ≡ true) (mid starts' ends' : List ℕ) where
         module _ {one : Step} (d : DeclaresOne text (names ++ g.new) n t known after' mid ends starts' ends' one) where
-          pub stops_at : {q p : ℕ} → one ≡ Refused q p → DeclaresAll word text names at to before mid ends₀ starts' ends' one
+          pub stops_at : {e : Refusal} → one ≡ Err e → DeclaresAll word text names at to before mid ends₀ starts' ends' one
           stops_at {q} {p} h = refuses mid ends₀ starts' ends' q p h (g.goes ∙ turn_refused g.fuel word text (names ++ g.new) a k s n e q p f (refused_part d.writes h))
 
-          pub more : {x : Place} → known < 64 → one ≡ Done x → Going word text names at to before ends₀ starts' ends' mid x.at (known + 1) x.to
+          pub more : {x : Place} → known < 64 → one ≡ Ok x → Going word text names at to before ends₀ starts' ends' mid x.at (known + 1) x.to
           more {x} few h =
               let y = got d.writes h in
               let bytes = header_append g.new (y.tree ∷ []) in
@@ -117,7 +120,7 @@ module _ (word : Kind) (text : List ℕ) (names : List Name) (at to : ℕ) (befo
               }
 
 -- a refusal says nothing of them, and the end of the loop what holds there
-pub few_refused : (to : ℕ) {r : Step} {k p : ℕ} → r ≡ Refused k p → FewDeclared to r
+pub few_refused : (to : ℕ) {r : Step} {e : Refusal} → r ≡ Err e → FewDeclared to r
 few_refused to e = rw e tt
 
 pub few_reached : (to : ℕ) {r : Step} {a t known : ℕ} → r ≡ reached_at a t known → known ≤ 64 → t ≤ to + 15 * known → FewDeclared to r
@@ -151,14 +154,14 @@ module _ (word : Kind) (text : List ℕ) (at to : ℕ) (before starts₀ ends₀
 
     module _ (k : Kind) (s n : ℕ) (e : token_at text a ≡ token k s n) (f : is k word ≡ true) (mid starts' ends' : List ℕ) {one : Step}
         (d : (names : List Name) → TableHolds text starts ends known names → DeclaresOne text names n t known after' mid ends starts' ends' one)
-        (l : (x : Place) → one ≡ Done x → (known < 64) × (x.to ≤ t + 15))
+        (l : (x : Place) → one ≡ Ok x → (known < 64) × (x.to ≤ t + 15))
       where
-        pub turns-out : {q p : ℕ} → one ≡ Refused q p → (names : List Name) → TableHolds text starts₀ ends₀ count names → DeclaresAll word text names at to before mid ends₀ starts' ends' one
+        pub turns-out : {e : Refusal} → one ≡ Err e → (names : List Name) → TableHolds text starts₀ ends₀ count names → DeclaresAll word text names at to before mid ends₀ starts' ends' one
         turns-out h names held =
             let go = g.going names held in
             stops_at word text names at to before ends₀ starts ends after' a known t go k s n e f mid starts' ends' (d (names ++ go.new) go.held) h
 
-        pub turns_on : {y : Place} → one ≡ Done y → length starts' ≡ length starts → length ends' ≡ length ends → length mid ≡ length after' → Turning word text at to before starts₀ ends₀ count starts' ends' mid y.at (known + 1) y.to
+        pub turns_on : {y : Place} → one ≡ Ok y → length starts' ≡ length starts → length ends' ≡ length ends → length mid ≡ length after' → Turning word text at to before starts₀ ends₀ count starts' ends' mid y.at (known + 1) y.to
         turns_on {y} h x z w =
             let m = l y h in
             record {

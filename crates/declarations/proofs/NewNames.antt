@@ -20,8 +20,11 @@ use Rattle.grammar.specs.Parsed.{accepted, refused}
 use Rattle.grammar.specs.Declarations.{spellings, new_name}
 use Rattle.lexer.specs.Results.{reached_at}
 use Rattle.lexer.specs.declared.Place.{Place}
-use Rattle.lexer.specs.declared.Step.{Step}
-use Rattle.lexer.specs.declared.Step.TheVariants.{Done, Refused}
+use Rattle.lexer.specs.Results.{Step}
+use Rattle.std.specs.Prelude.{Ok, Err}
+use Rattle.limits.specs.declared.Refusal.{Refusal}
+use Rattle.limits.specs.declared.Refusal.TheVariants.{NoToken, NotAllowed, TooMany, WrongName}
+use Rattle.limits.specs.Refusals.{number_of, place_of}
 use Rattle.grammar.proofs.Combine.{same_value, same_end, never}
 use Rattle.declarations.specs.Inner.Tables.{TableRoom, TableHolds, Names}
 use Rattle.declarations.proofs.Entries.{step_refused}
@@ -60,28 +63,28 @@ module _ (text : List ℕ) (names : List Name) (at : ℕ) where
 
 module _ (text starts ends : List ℕ) (at count : ℕ) (starts' ends' : List ℕ) where
   abbrev Answers : Step → Type 0
-  Answers r = ((names : List Name) → TableHolds text starts ends count names → Names text names at count ends starts' ends' r) × ((x : Place) → r ≡ Done x → count < 64)
+  Answers r = ((names : List Name) → TableHolds text starts ends count names → Names text names at count ends starts' ends' r) × ((x : Place) → r ≡ Ok x → count < 64)
 
-  refuses : {r : Step} (k p : ℕ) → r ≡ Refused k p → ((names : List Name) → TableHolds text starts ends count names → new_name text names at ≡ refused k p) → Answers r
+  refuses : {r : Step} (e : Refusal) → r ≡ Err e → ((names : List Name) → TableHolds text starts ends count names → new_name text names at ≡ refused (number_of e) (place_of e)) → Answers r
   refuses k p g f =
       (λ names h. record { answer = rw (g, f names h); named = λ w n e. never k p n w (sym (f names h) ∙ e); ended = λ w n e. never k p n w (sym (f names h) ∙ e) }, λ x e. step_refused k p x (sym g ∙ e))
 
-  pub faulty_name : {r : Step} (k p : ℕ) → r ≡ Refused k p → (token_at text at ≡ fault p) × (k ≡ no_token) → Answers r
-  faulty_name k p g e = refuses no_token p (g ∙ ap (λ (x : ℕ). Refused x p) e.1) (λ names h. name_fault text names at p e.0)
+  pub faulty_name : {r : Step} (e : Refusal) → r ≡ Err e → (token_at text at ≡ fault (place_of e)) × (e ≡ NoToken (place_of e)) → Answers r
+  faulty_name k p g e = refuses no_token p (g ∙ ap (λ (x : ℕ). Err e) e.1) (λ names h. name_fault text names at p e.0)
 
   module _ (k : Kind) (s n : ℕ) (e : token_at text at ≡ token k s n) where
-    pub refuses_other : is k name ≡ false → Answers (Refused not_allowed s)
+    pub refuses_other : is k name ≡ false → Answers (Err (NotAllowed s))
     refuses_other f = refuses not_allowed s refl (λ names h. no_name text names at k s n e f)
 
     module _ (f : is k name ≡ true) where
-      pub refuses_known : (i : ℕ) → id_of (table_names text starts ends count) (part text s n) ≡ some i → Answers (Refused wrong_name s)
+      pub refuses_known : (i : ℕ) → id_of (table_names text starts ends count) (part text s n) ≡ some i → Answers (Err (WrongName s))
       refuses_known i g = refuses wrong_name s refl (λ names h. known_name text names at k s n e f i (rw h.spelled at g))
 
       module _ (g : id_of (table_names text starts ends count) (part text s n) ≡ none) where
-        pub refuses_long : over_long s n ≡ true → Answers (Refused too_many s)
+        pub refuses_long : over_long s n ≡ true → Answers (Err (TooMany s))
         refuses_long l = refuses too_many s refl (λ names h. long_name text names at k s n e f (rw h.spelled at g) l)
 
-        pub refuses_last : over_long s n ≡ false → name_limit ≤ count → Answers (Refused too_many s)
+        pub refuses_last : over_long s n ≡ false → name_limit ≤ count → Answers (Err (TooMany s))
         refuses_last l m = refuses too_many s refl (λ names h. last_name text names at k s n e f (rw h.spelled at g) l (omega (arith, h.counted)))
 
         pub takes_name : over_long s n ≡ false → count < name_limit → TableRoom starts ends count → (starts' ≡ set starts count s) × (ends' ≡ set ends count n) → {r : Step} → r ≡ reached_at n 0 0 → Answers r

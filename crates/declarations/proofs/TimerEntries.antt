@@ -11,8 +11,10 @@ use Rattle.grammar.specs.Parsed.{Parsed, accepted, refused, and_then, sign, expe
 use Rattle.grammar.specs.Declarations.{new_name}
 use Rattle.grammar.specs.Timers.{timer_name, WithTimers, watched_at, limit_at, timer_declaration}
 use Rattle.lexer.specs.declared.Place.{Place}
-use Rattle.lexer.specs.declared.Step.{Step}
-use Rattle.lexer.specs.declared.Step.TheVariants.{Done, Refused}
+use Rattle.lexer.specs.Results.{Step}
+use Rattle.std.specs.Prelude.{Ok, Err}
+use Rattle.limits.specs.declared.Refusal.{Refusal}
+use Rattle.limits.specs.Refusals.{number_of, place_of}
 use Rattle.phrases.specs.Inner.Steps.{parsed_of, nothing}
 use Rattle.lexer.specs.Results.{reached_at}
 use Rattle.phrases.proofs.Writing.{writes, refuses}
@@ -102,16 +104,16 @@ timer_names text inputs first x at y n e = go (new_name text x.names at) refl
 module _ (text starts ends watched limits : List ℕ) (inputs first at to count : ℕ) (before starts' ends' : List ℕ) where
   abbrev Answers : List ℕ → List ℕ → List ℕ → Step → Type 0
   Answers watched' limits' mid r =
-      ((x : WithTimers) → TimersHeld text starts ends watched limits first count x → TimerDeclared text inputs first x at to count before mid starts' ends' watched' limits' r) × ((x : Place) → r ≡ Done x → (count < 64) × (x.to ≤ to + 15))
+      ((x : WithTimers) → TimersHeld text starts ends watched limits first count x → TimerDeclared text inputs first x at to count before mid starts' ends' watched' limits' r) × ((x : Place) → r ≡ Ok x → (count < 64) × (x.to ≤ to + 15))
 
-  refuses_timer : (watched' limits' mid : List ℕ) {r : Step} {k q : ℕ} → r ≡ Refused k q → ((x : WithTimers) → TimersHeld text starts ends watched limits first count x → timer_declaration text inputs first x at ≡ refused k q) → Answers watched' limits' mid r
+  refuses_timer : (watched' limits' mid : List ℕ) {r : Step} {e : Refusal} → r ≡ Err e → ((x : WithTimers) → TimersHeld text starts ends watched limits first count x → timer_declaration text inputs first x at ≡ refused (number_of e) (place_of e)) → Answers watched' limits' mid r
   refuses_timer watched' limits' mid {k = k} {q = q} g e = (
     λ x held. record { writes = refuses g (e x held); held = λ y n f. never k q n y (sym (e x held) ∙ f) },
     λ x f. step_refused k q x (sym g ∙ f),
   )
 
   module _ {named : Step} (h : (names : List Name) → TableHolds text starts ends count names → Names text names at count ends starts' ends' named) where
-    pub timer_unnamed : (watched' limits' mid : List ℕ) {k q : ℕ} → named ≡ Refused k q → Answers watched' limits' mid named
+    pub timer_unnamed : (watched' limits' mid : List ℕ) {e : Refusal} → named ≡ Err e → Answers watched' limits' mid named
     timer_unnamed watched' limits' mid {k} {q} g = refuses_timer watched' limits' mid g
         (λ x held. no_timer_name text inputs first x at k q (refused_then (λ (w : List ℕ). tt {0}) (new_name text x.names at) k q (sym (h x.names held.known.table).answer ∙ ap (parsed_of nothing) g)))
 
@@ -131,7 +133,7 @@ module _ (text starts ends watched limits : List ℕ) (inputs first at to count 
           stand = stand_kept text ends ends' 0 k.variables (λ j a b. (m.ended t n e).1 j (omega (arith, b, long, k.table.counted))) k.stand;
         }
 
-    module _ {next : Place} (g : named ≡ Done next) (read : Step)
+    module _ {next : Place} (g : named ≡ Ok next) (read : Step)
         (w : (names : List Name) → Watchables text starts' ends' (count + 1) first names → parsed_of timer_told read ≡ timer_rest text inputs first names next.at)
       where
         module _ (x : WithTimers) (held : TimersHeld text starts ends watched limits first count x) where
@@ -145,11 +147,11 @@ module _ (text starts ends watched limits : List ℕ) (inputs first at to count 
           is = timer-is text inputs first x at new.0 next.at new.1
               ∙ ap (λ (p : Parsed (ℕ × ℕ)). and_then p (λ y m. accepted (with_timer x new.0 y) m)) (sym (w (x.names ++ (timer_name new.0 ∷ [])) watches))
 
-        pub timer_cut : (watched' limits' mid : List ℕ) {k q : ℕ} → read ≡ Refused k q → Answers watched' limits' mid read
+        pub timer_cut : (watched' limits' mid : List ℕ) {e : Refusal} → read ≡ Err e → Answers watched' limits' mid read
         timer_cut watched' limits' mid f = refuses_timer watched' limits' mid f
             (λ x held. is x held ∙ ap (λ (s : Step). and_then (parsed_of timer_told s) (λ y m. accepted (with_timer x (new x held).0 y) m)) f)
 
-        module _ {y : Place} (f : read ≡ Done y) {watched' limits' : List ℕ} (stored : (watched' ≡ set watched count y.number) × (limits' ≡ set limits count y.start))
+        module _ {y : Place} (f : read ≡ Ok y) {watched' limits' : List ℕ} (stored : (watched' ≡ set watched count y.number) × (limits' ≡ set limits count y.start))
             (few : count < 64) (in_watched : 64 ≤ length watched) (in_limits_lem : 64 ≤ length limits)
           where
             one_more : (x : WithTimers) (held : TimersHeld text starts ends watched limits first count x) → TimersHeld text starts' ends' watched' limits' first (count + 1) (with_timer x (new x held).0 (timer_told y))

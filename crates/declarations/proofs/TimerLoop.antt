@@ -11,8 +11,11 @@ use Rattle.lexer.specs.Token.{Kind, timer_word, is, token, fault}
 use Rattle.lexer.specs.Lexer.{token_at}
 use Rattle.lexer.specs.Results.{reached_at}
 use Rattle.lexer.specs.declared.Place.{Place}
-use Rattle.lexer.specs.declared.Step.{Step}
-use Rattle.lexer.specs.declared.Step.TheVariants.{Done, Refused}
+use Rattle.lexer.specs.Results.{Step}
+use Rattle.std.specs.Prelude.{Ok, Err}
+use Rattle.limits.specs.declared.Refusal.{Refusal}
+use Rattle.limits.specs.declared.Refusal.TheVariants.{NoToken}
+use Rattle.limits.specs.Refusals.{number_of, place_of}
 use Rattle.semantics.specs.Program.{Name, bit_range}
 use Rattle.grammar.specs.Parsed.{accepted, refused, item_bound}
 use Rattle.grammar.specs.Timers.{timer_name, WithTimers, timer_declaration, timers_from}
@@ -83,12 +86,12 @@ module _ (text : List ℕ) (inputs first : ℕ) (x : WithTimers) (at to : ℕ) (
         wrote = rw none refl;
       }
 
-  refuses : (after' starts ends watched limits : List ℕ) {r : Step} (k p : ℕ) → r ≡ Refused k p → timers_from item_bound text inputs first x at ≡ refused k p → DeclaresTimers text inputs first x at to before after' starts ends watched limits r
+  refuses : (after' starts ends watched limits : List ℕ) {r : Step} (e : Refusal) → r ≡ Err e → timers_from item_bound text inputs first x at ≡ refused (number_of e) (place_of e) → DeclaresTimers text inputs first x at to before after' starts ends watched limits r
   refuses after' starts ends watched limits k p h e = record { writes = W.refuses h e; held = λ y n f. never k p n y (sym e ∙ f) }
 
   module _ (starts ends watched limits after' : List ℕ) (a known t : ℕ) (g : TimersGoing text inputs first x at to before starts ends watched limits after' a known t) where
-    pub stops_fault : {r : Step} {k p : ℕ} → r ≡ Refused k p → (token_at text a ≡ fault p) × (k ≡ no_token) → DeclaresTimers text inputs first x at to before after' starts ends watched limits r
-    stops_fault {p = p} h e = refuses after' starts ends watched limits no_token p (h ∙ ap (λ (z : ℕ). Refused z p) e.1) (g.goes ∙ turn_fault g.fuel text inputs first g.all a p e.0)
+    pub stops_fault : {r : Step} {e : Refusal} → r ≡ Err e → (token_at text a ≡ fault (place_of e)) × (e ≡ NoToken (place_of e)) → DeclaresTimers text inputs first x at to before after' starts ends watched limits r
+    stops_fault {p = p} h e = refuses after' starts ends watched limits no_token p (h ∙ ap (λ (z : ℕ). Err e) e.1) (g.goes ∙ turn_fault g.fuel text inputs first g.all a p e.0)
 
     module _ (k : Kind) (s n : ℕ) (e : token_at text a ≡ token k s n) where
       pub ends_all : {r : Step} → r ≡ reached_at a t known → is k timer_word ≡ false → DeclaresTimers text inputs first x at to before after' starts ends watched limits r
@@ -100,10 +103,10 @@ module _ (text : List ℕ) (inputs first : ℕ) (x : WithTimers) (at to : ℕ) (
           }
 
       module _ (f : is k timer_word ≡ true) (mid starts' ends' watched' limits' : List ℕ) {one : Step} (d : TimerDeclared text inputs first g.all n t known after' mid starts' ends' watched' limits' one) where
-        stops_at : {q p : ℕ} → one ≡ Refused q p → DeclaresTimers text inputs first x at to before mid starts' ends' watched' limits' one
+        stops_at : {e : Refusal} → one ≡ Err e → DeclaresTimers text inputs first x at to before mid starts' ends' watched' limits' one
         stops_at {q} {p} h = refuses mid starts' ends' watched' limits' q p h (g.goes ∙ turn_refused g.fuel text inputs first g.all a k s n e q p f (refused_part d.writes h))
 
-        more : {y : Place} → known < 64 → one ≡ Done y → TimersGoing text inputs first x at to before starts' ends' watched' limits' mid y.at (known + 1) y.to
+        more : {y : Place} → known < 64 → one ≡ Ok y → TimersGoing text inputs first x at to before starts' ends' watched' limits' mid y.at (known + 1) y.to
         more {y} few h =
             let o = got d.writes h in
             let named = timer_names text inputs first g.all n o.tree y.at o.is in
@@ -155,14 +158,14 @@ module _ (text : List ℕ) (inputs first at to : ℕ) (before starts₀ ends₀ 
 
     module _ (k : Kind) (s n : ℕ) (e : token_at text a ≡ token k s n) (f : is k timer_word ≡ true) (mid starts' ends' watched' limits' : List ℕ) {one : Step}
         (d : (x : WithTimers) → TimersHeld text starts ends watched limits first known x → TimerDeclared text inputs first x n t known after' mid starts' ends' watched' limits' one)
-        (l : (y : Place) → one ≡ Done y → (known < 64) × (y.to ≤ t + 15))
+        (l : (y : Place) → one ≡ Ok y → (known < 64) × (y.to ≤ t + 15))
       where
-        pub turns-out : {q p : ℕ} → one ≡ Refused q p → (x : WithTimers) → TimersHeld text starts₀ ends₀ watched₀ limits₀ first first x → DeclaresTimers text inputs first x at to before mid starts' ends' watched' limits' one
+        pub turns-out : {e : Refusal} → one ≡ Err e → (x : WithTimers) → TimersHeld text starts₀ ends₀ watched₀ limits₀ first first x → DeclaresTimers text inputs first x at to before mid starts' ends' watched' limits' one
         turns-out h x held =
             let go = g.going x held in
             stops_at text inputs first x at to before starts ends watched limits after' a known t go k s n e f mid starts' ends' watched' limits' (d go.all go.held) h
 
-        pub turns_on : {y : Place} → one ≡ Done y → (length starts' ≡ length starts) × (length ends' ≡ length ends) × (length watched' ≡ length watched) × (length limits' ≡ length limits) × (length mid ≡ length after')
+        pub turns_on : {y : Place} → one ≡ Ok y → (length starts' ≡ length starts) × (length ends' ≡ length ends) × (length watched' ≡ length watched) × (length limits' ≡ length limits) × (length mid ≡ length after')
             → TimersTurning text inputs first at to before starts₀ ends₀ watched₀ limits₀ starts' ends' watched' limits' mid y.at (known + 1) y.to
         turns_on {y} h long =
             let m = l y h in

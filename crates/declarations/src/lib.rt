@@ -9,7 +9,7 @@ ghost use Rattle.lexer.specs.Token.{last_kind};
 ghost use Rattle.semantics.specs.Program.{Name};
 ghost use Rattle.grammar.specs.Declarations.{in_range, signed_digits, bound_at, start_at};
 ghost use Rattle.lexer.specs.declared.Place.{Place};
-ghost use Rattle.lexer.specs.declared.Step.TheVariants.{Done};
+ghost use Rattle.std.specs.Prelude.{Ok};
 ghost use Rattle.limits.specs.Limits.{name_limit, out_of_limit};
 ghost use Rattle.grammar.specs.Parsed.{accepted, refused as refused_at};
 ghost use Rattle.phrases.specs.Inner.Steps.{parsed_of, nothing, value_told, Writes};
@@ -17,7 +17,8 @@ ghost use Rattle.declarations.specs.Inner.Ranges.{signed_by, declared_range, ran
 ghost use Rattle.declarations.specs.Inner.Bounds.{bounded_number, valued_at};
 ghost use Rattle.declarations.specs.Inner.Tables.{TableRoom, TableHolds, Names, DeclaresOne, DeclaresAll, FewDeclared};
 
-use lexer::{Found, Place, Step};
+use lexer::{Place, Step};
+use limits::Refusal;
 
 pub mod timers;
 
@@ -25,18 +26,11 @@ const LOWEST: i32 = -2147483648;
 
 const HIGHEST: i32 = 2147483647;
 
-// A number between its bounds.
-#[derive(Clone, Copy)]
-enum Number {
-    Is(i32),
-    Outside,
-}
-
 // The place after a number, with its value.
 fn valued(at: usize, value: i32) -> Step
     ensures { result ≡ valued_at at value }
 {
-    Step::Done(Place {
+    Ok(Place {
         at,
         kind: lexer::UNKNOWN,
         start: at,
@@ -47,19 +41,19 @@ fn valued(at: usize, value: i32) -> Step
     })
 }
 
-fn within(z: i64, low: i32, high: i32) -> Number
+fn within(z: i64, low: i32, high: i32) -> Option<i32>
     ensures { bounded_number result ≡ cond (in_range low high z) (some z) none }
 {
     if low as i64 <= z {
         if z <= high as i64 {
-            return Number::Is(z as i32);
+            return Some(z as i32);
         }
     }
-    Number::Outside
+    None
 }
 
 // The number of that value and sign.
-fn signed(value: u64, negative: bool, low: i32, high: i32) -> Number
+fn signed(value: u64, negative: bool, low: i32, high: i32) -> Option<i32>
     requires { value ≤ 2 ^ 32 }
     ensures { bounded_number result ≡ cond (in_range low high (signed_by negative (pos value))) (some (signed_by negative (pos value))) none }
 {
@@ -84,11 +78,11 @@ fn digits(
     ensures { parsed_of value_told result ≡ signed_digits (in_range low high) (signed_by negative) text.now (kind_of kind) start end }
 {
     if kind != lexer::DIGITS {
-        return Step::Refused(limits::NOT_ALLOWED, start);
+        return Err(Refusal::NotAllowed(start));
     }
     let value = lexer::value(lexer::name(text, start, end));
-    let Number::Is(z) = signed(value, negative, low, high) else {
-        return Step::Refused(limits::OUT_OF_LIMIT, start);
+    let Some(z) = signed(value, negative, low, high) else {
+        return Err(Refusal::OutOfLimit(start));
     };
     valued(end, z)
 }
@@ -97,15 +91,9 @@ fn digits(
 fn bound_at(text: &[u8], at: usize, low: i32, high: i32) -> Step
     ensures { parsed_of value_told result ≡ bound_at (in_range low high) text.now at }
 {
-    let read = lexer::token_at(text, at);
-    let Step::Done(token) = read else {
-        return read;
-    };
+    let token = lexer::token_at(text, at)?;
     if token.kind == lexer::MINUS {
-        let next = lexer::token_at(text, token.end);
-        let Step::Done(token2) = next else {
-            return next;
-        };
+        let token2 = lexer::token_at(text, token.end)?;
         return digits(text, token2.kind, token2.start, token2.end, true, low, high);
     }
     digits(text, token.kind, token.start, token.end, false, low, high)
@@ -115,8 +103,8 @@ fn bound_at(text: &[u8], at: usize, low: i32, high: i32) -> Step
 fn absent(place: usize, next: usize, low: i32, high: i32) -> Step
     ensures { parsed_of value_told result ≡ cond (in_range low high (pos 0)) (accepted (pos 0) next) (refused_at out_of_limit place) }
 {
-    let Number::Is(z) = within(0, low, high) else {
-        return Step::Refused(limits::OUT_OF_LIMIT, place);
+    let Some(z) = within(0, low, high) else {
+        return Err(Refusal::OutOfLimit(place));
     };
     valued(next, z)
 }
@@ -125,25 +113,16 @@ fn absent(place: usize, next: usize, low: i32, high: i32) -> Step
 fn start_at(text: &[u8], at: usize, low: i32, high: i32) -> Step
     ensures { parsed_of value_told result ≡ start_at text.now low high at }
 {
-    let read = lexer::token_at(text, at);
-    let Step::Done(token) = read else {
-        return read;
-    };
+    let token = lexer::token_at(text, at)?;
     if token.kind == lexer::INIT {
-        let given = bound_at(text, token.end, low, high);
-        let Step::Done(z) = given else {
-            return given;
-        };
-        let closed = phrases::expect(text, z.at, lexer::SEMICOLON);
-        let Step::Done(after) = closed else {
-            return closed;
-        };
+        let z = bound_at(text, token.end, low, high)?;
+        let after = phrases::expect(text, z.at, lexer::SEMICOLON)?;
         return valued(after.at, z.value);
     }
     if token.kind == lexer::SEMICOLON {
         return absent(token.start, token.end, low, high);
     }
-    Step::Refused(limits::NOT_ALLOWED, token.start)
+    Err(Refusal::NotAllowed(token.start))
 }
 
 // Low, high and start as the header has them.
@@ -161,22 +140,10 @@ fn range(text: &[u8], at: usize, out: &mut [u8], to: usize) -> Step
     requires { to < 2 ^ 30 }
     ensures { Writes range_bytes nothing (λ _. tt) (declared_range text.now at) to out.old out.new result }
 {
-    let first = bound_at(text, at, LOWEST, HIGHEST);
-    let Step::Done(low) = first else {
-        return first;
-    };
-    let between = phrases::expect(text, low.at, lexer::DOTS);
-    let Step::Done(b) = between else {
-        return between;
-    };
-    let second = bound_at(text, b.at, low.value, HIGHEST);
-    let Step::Done(high) = second else {
-        return second;
-    };
-    let third = start_at(text, high.at, low.value, high.value);
-    let Step::Done(z) = third else {
-        return third;
-    };
+    let low = bound_at(text, at, LOWEST, HIGHEST)?;
+    let b = phrases::expect(text, low.at, lexer::DOTS)?;
+    let high = bound_at(text, b.at, low.value, HIGHEST)?;
+    let z = start_at(text, high.at, low.value, high.value)?;
     lexer::reached(z.at, put_range(out, to, low.value, high.value, z.value), 0)
 }
 
@@ -184,14 +151,11 @@ fn range(text: &[u8], at: usize, out: &mut [u8], to: usize) -> Step
 fn new_name(text: &[u8], at: usize, starts: &mut [usize], ends: &mut [usize], count: usize) -> Step
     requires { TableRoom starts.old ends.old count }
     ensures names { (names : List Name) → TableHolds text.now starts.old ends.old count names → Names text.now names at count ends.old starts.new ends.new result }
-    ensures count_lt_name_limit { (x : Place) → result ≡ Done x → count < name_limit }
+    ensures count_lt_name_limit { (x : Place) → result ≡ Ok x → count < name_limit }
 {
-    let read = lexer::token_at(text, at);
-    let Step::Done(token) = read else {
-        return read;
-    };
+    let token = lexer::token_at(text, at)?;
     if token.kind != lexer::NAME {
-        return Step::Refused(limits::NOT_ALLOWED, token.start);
+        return Err(Refusal::NotAllowed(token.start));
     }
     let known = lexer::find(
         text,
@@ -200,17 +164,17 @@ fn new_name(text: &[u8], at: usize, starts: &mut [usize], ends: &mut [usize], co
         count,
         lexer::name(text, token.start, token.end),
     );
-    if let Found::At(_) = known {
-        return Step::Refused(limits::WRONG_NAME, token.start);
+    if known.is_some() {
+        return Err(Refusal::WrongName(token.start));
     }
     if lexer::is_over_long(token.start, token.end) {
-        return Step::Refused(limits::TOO_MANY, token.start);
+        return Err(Refusal::TooMany(token.start));
     }
     if count < limits::NAME_LIMIT {
         lexer::add(starts, ends, count, token.start, token.end);
         return lexer::reached(token.end, 0, 0);
     }
-    Step::Refused(limits::TOO_MANY, token.start)
+    Err(Refusal::TooMany(token.start))
 }
 
 // A declaration after its word.
@@ -226,12 +190,9 @@ fn declaration(
     requires table_room { TableRoom starts.old ends.old count }
     requires to_bound { to < 2 ^ 30 }
     ensures declares_one { (names : List Name) → TableHolds text.now starts.old ends.old count names → DeclaresOne text.now names at to count out.old out.new ends.old starts.new ends.new result }
-    ensures count_lt_name_limit { (x : Place) → result ≡ Done x → (count < name_limit) × (x.to ≤ to + 15) }
+    ensures count_lt_name_limit { (x : Place) → result ≡ Ok x → (count < name_limit) × (x.to ≤ to + 15) }
 {
-    let named = new_name(text, at, starts, ends, count);
-    let Step::Done(next) = named else {
-        return named;
-    };
+    let next = new_name(text, at, starts, ends, count)?;
     range(text, next.at, out, to)
 }
 
@@ -255,17 +216,11 @@ pub fn declarations(
     let mut known = count;
     let mut t = to;
     loop {
-        let read = lexer::token_at(text, a);
-        let Step::Done(token) = read else {
-            return read;
-        };
+        let token = lexer::token_at(text, a)?;
         if token.kind != word {
             return lexer::reached(a, t, known);
         }
-        let one = declaration(text, token.end, starts, ends, known, out, t);
-        let Step::Done(b) = one else {
-            return one;
-        };
+        let b = declaration(text, token.end, starts, ends, known, out, t)?;
         a = b.at;
         t = b.to;
         known += 1;

@@ -5,28 +5,29 @@ ghost use Rattle.semantics.specs.Program.{Name, Range, is_binary};
 ghost use Rattle.grammar.specs.Parsed.{accepted};
 ghost use Rattle.grammar.specs.Timers.{WithTimers, is_watchable, watched_at, limit_at};
 ghost use Rattle.lexer.specs.declared.Place.{Place};
-ghost use Rattle.lexer.specs.declared.Step.TheVariants.{Done};
+ghost use Rattle.std.specs.Prelude.{Ok};
 ghost use Rattle.phrases.specs.Inner.Steps.{parsed_of, number_told};
 ghost use Rattle.declarations.specs.Inner.Ranges.{declared_range};
 ghost use Rattle.declarations.specs.Inner.Tables.{TableRoom, FewDeclared};
 ghost use Rattle.declarations.specs.Inner.Timers.{Watchables, timer_told, timer_done, timer_rest, TimersHeld, TimerRoom, TimerDeclared, DeclaresTimers};
 
-use lexer::{Found, Place, Step};
+use lexer::{Place, Step};
+use limits::Refusal;
 
 // Whether the range that stands at a place is 0..1.
 fn is_binary(text: &[u8], at: usize) -> bool
     ensures { (x : Range) (n : ℕ) → declared_range text.now at ≡ accepted x n → result ≡ is_binary x }
 {
     let first = crate::bound_at(text, at, crate::LOWEST, crate::HIGHEST);
-    let Step::Done(low) = first else {
+    let Ok(low) = first else {
         return false;
     };
     let between = phrases::expect(text, low.at, lexer::DOTS);
-    let Step::Done(b) = between else {
+    let Ok(b) = between else {
         return false;
     };
     let second = crate::bound_at(text, b.at, low.value, crate::HIGHEST);
-    let Step::Done(high) = second else {
+    let Ok(high) = second else {
         return false;
     };
     if arith::is_equal(low.value, 0) {
@@ -64,17 +65,14 @@ fn watched_at(
     requires first_le_name_limit { first ≤ name_limit }
     ensures result_value { (names : List Name) → Watchables text.now starts.now ends.now count first names
         → parsed_of number_told result ≡ watched_at text.now inputs first names at }
-    ensures number_lt_name_limit { (x : Place) → result ≡ Done x → x.number < name_limit }
+    ensures number_lt_name_limit { (x : Place) → result ≡ Ok x → x.number < name_limit }
 {
-    let read = lexer::token_at(text, at);
-    let Step::Done(token) = read else {
-        return read;
-    };
+    let token = lexer::token_at(text, at)?;
     if token.kind != lexer::NAME {
-        return Step::Refused(limits::NOT_ALLOWED, token.start);
+        return Err(Refusal::NotAllowed(token.start));
     }
     if lexer::is_over_long(token.start, token.end) {
-        return Step::Refused(limits::TOO_MANY, token.start);
+        return Err(Refusal::TooMany(token.start));
     }
     let found = lexer::find(
         text,
@@ -83,33 +81,30 @@ fn watched_at(
         count,
         lexer::name(text, token.start, token.end),
     );
-    let Found::At(id) = found else {
-        return Step::Refused(limits::WRONG_NAME, token.start);
+    let Some(id) = found else {
+        return Err(Refusal::WrongName(token.start));
     };
     if is_watchable(text, ends, inputs, first, id) {
         return lexer::reached(token.end, 0, id);
     }
-    Step::Refused(limits::WRONG_TIMER, token.start)
+    Err(Refusal::WrongTimer(token.start))
 }
 
 // N. The number told is its value.
 fn limit_at(text: &[u8], at: usize) -> Step
     ensures result_value { parsed_of number_told result ≡ limit_at text.now at }
-    ensures number_le_time_limit { (x : Place) → result ≡ Done x → x.number ≤ time_limit }
+    ensures number_le_time_limit { (x : Place) → result ≡ Ok x → x.number ≤ time_limit }
 {
-    let read = lexer::token_at(text, at);
-    let Step::Done(token) = read else {
-        return read;
-    };
+    let token = lexer::token_at(text, at)?;
     if token.kind != lexer::DIGITS {
-        return Step::Refused(limits::NOT_ALLOWED, token.start);
+        return Err(Refusal::NotAllowed(token.start));
     }
     let value = lexer::value(lexer::name(text, token.start, token.end));
     if value < 1 {
-        return Step::Refused(limits::OUT_OF_LIMIT, token.start);
+        return Err(Refusal::OutOfLimit(token.start));
     }
     if limits::TIME_LIMIT < value {
-        return Step::Refused(limits::OUT_OF_LIMIT, token.start);
+        return Err(Refusal::OutOfLimit(token.start));
     }
     lexer::reached(token.end, 0, value as usize)
 }
@@ -127,7 +122,7 @@ fn store(watched: &mut [u8], limits: &mut [u32], id: usize, w: usize, n: usize)
 fn told(at: usize, w: usize, n: usize) -> Step
     ensures { result ≡ timer_done at w n }
 {
-    Step::Done(Place {
+    Ok(Place {
         at,
         kind: lexer::UNKNOWN,
         start: n,
@@ -152,28 +147,13 @@ fn rest(
     requires first_le_name_limit { first ≤ name_limit }
     ensures result_value { (names : List Name) → Watchables text.now starts.now ends.now count first names
         → parsed_of timer_told result ≡ timer_rest text.now inputs first names at }
-    ensures number_lt_name_limit { (x : Place) → result ≡ Done x → (x.number < name_limit) × (x.start ≤ time_limit) }
+    ensures number_lt_name_limit { (x : Place) → result ≡ Ok x → (x.number < name_limit) × (x.start ≤ time_limit) }
 {
-    let of = phrases::expect(text, at, lexer::OF);
-    let Step::Done(before) = of else {
-        return of;
-    };
-    let w = watched_at(text, before.at, starts, ends, count, inputs, first);
-    let Step::Done(variable) = w else {
-        return w;
-    };
-    let limit = phrases::expect(text, variable.at, lexer::LIMIT);
-    let Step::Done(ahead) = limit else {
-        return limit;
-    };
-    let n = limit_at(text, ahead.at);
-    let Step::Done(most) = n else {
-        return n;
-    };
-    let closed = phrases::expect(text, most.at, lexer::SEMICOLON);
-    let Step::Done(after) = closed else {
-        return closed;
-    };
+    let before = phrases::expect(text, at, lexer::OF)?;
+    let variable = watched_at(text, before.at, starts, ends, count, inputs, first)?;
+    let ahead = phrases::expect(text, variable.at, lexer::LIMIT)?;
+    let most = limit_at(text, ahead.at)?;
+    let after = phrases::expect(text, most.at, lexer::SEMICOLON)?;
     told(after.at, variable.number, most.number)
 }
 
@@ -196,16 +176,10 @@ fn timer(
     requires first_le_count { (first ≤ count) × (to < 2 ^ 30) }
     ensures timer_declared { (x : WithTimers) → TimersHeld text.now starts.old ends.old watched.old limits.old first count x
         → TimerDeclared text.now inputs first x at to count out.old out.new starts.new ends.new watched.new limits.new result }
-    ensures count_lt_name_limit { (x : Place) → result ≡ Done x → (count < name_limit) × (x.to ≤ to + 15) }
+    ensures count_lt_name_limit { (x : Place) → result ≡ Ok x → (count < name_limit) × (x.to ≤ to + 15) }
 {
-    let named = crate::new_name(text, at, starts, ends, count);
-    let Step::Done(next) = named else {
-        return named;
-    };
-    let read = rest(text, next.at, starts, ends, count + 1, inputs, first);
-    let Step::Done(x) = read else {
-        return read;
-    };
+    let next = crate::new_name(text, at, starts, ends, count)?;
+    let x = rest(text, next.at, starts, ends, count + 1, inputs, first)?;
     store(watched, limits, count, x.number, x.start);
     lexer::reached(x.at, crate::put_range(out, to, 0, 1, 0), 0)
 }
@@ -234,19 +208,13 @@ pub fn timers(
     let mut known = count;
     let mut t = to;
     loop {
-        let read = lexer::token_at(text, a);
-        let Step::Done(token) = read else {
-            return read;
-        };
+        let token = lexer::token_at(text, a)?;
         if token.kind != lexer::TIMER {
             return lexer::reached(a, t, known);
         }
-        let one = timer(
+        let b = timer(
             text, token.end, starts, ends, known, inputs, count, watched, limits, out, t,
-        );
-        let Step::Done(b) = one else {
-            return one;
-        };
+        )?;
         a = b.at;
         t = b.to;
         known += 1;

@@ -17,8 +17,9 @@ use Rattle.grammar.proofs.Growth.{Grown}
 use Rattle.leb128.proofs.Stores.{sets_append}
 use Rattle.lexer.proofs.Laws.{token_at_moved}
 use Rattle.lexer.specs.declared.Place.{Place}
-use Rattle.lexer.specs.declared.Step.{Step}
-use Rattle.lexer.specs.declared.Step.TheVariants.{Done, Refused}
+use Rattle.lexer.specs.Results.{Step}
+use Rattle.std.specs.Prelude.{Ok, Err}
+use Rattle.limits.specs.declared.Refusal.{Refusal}
 use Rattle.expressions.specs.Inner.Steps.{looked_ahead, Parses, Room}
 use Rattle.expressions.specs.Inner.Readers.{StandsAt, code_or_none, Codes, operator_bytes}
 use Rattle.expressions.specs.Inner.Chains.{Pending}
@@ -127,11 +128,11 @@ module _ {O A : Type 0} {code : A → List ℕ} {join : O → A → A → A} {op
     operand_refuses {k} {q} r =
         subst (λ (x : Parsed A). Refuses text x k q) (sym p.same) (then_refused text _ (λ b. rest_fault p.fuel (p.made b)) (operand a) r)
 
-    pub turn_refused : {u v : ℕ} {b x before after : List ℕ} {s : Step} {k q : ℕ} → Parses text code (operand a) u b x s → s ≡ Refused k q → Parses text code (chain join operator operand text at) v before after s
+    pub turn_refused : {u v : ℕ} {b x before after : List ℕ} {s : Step} {e : Refusal} → Parses text code (operand a) u b x s → s ≡ Err e → Parses text code (chain join operator operand text at) v before after s
     turn_refused d i = passed d i operand_refuses
 
     -- it is accepted, with the token g behind it
-    module _ {out' : List ℕ} {s : Step} {g : Place} (d : Parses text code (operand a) t out out' s) (done : s ≡ Done g) where
+    module _ {out' : List ℕ} {s : Step} {g : Place} (d : Parses text code (operand a) t out out' s) (done : s ≡ Ok g) where
       b : Accepted text code (operand a) t out out' g g.to
       b = accepted_by d done
 
@@ -165,7 +166,7 @@ module _ {O A : Type 0} {code : A → List ℕ} {join : O → A → A → A} {op
         -- e is the code of the token behind
         module _ {e : ℕ} (f : Codes number operator g.kind e) where
           -- no operator: the chain ends here
-          pub turn_done : e ≡ 0 → Parses text code (chain join operator operand text at) to out₀ out'' (Done (up_to g v))
+          pub turn_done : e ≡ 0 → Parses text code (chain join operator operand text at) to out₀ out'' (Ok (up_to g v))
           turn_done z =
               let i : operator here.kind ≡ none = operator_none operator number here.kind e (f here.kind here.numbered) ops.some_code z in
               accepts refl (record {

@@ -14,8 +14,11 @@ use Rattle.lexer.specs.Token.{Kind, kind_number, ending, minus, is, TokenRead, t
 use Rattle.lexer.specs.Lexer.{token_at}
 use Rattle.lexer.specs.Results.{token_step}
 use Rattle.lexer.specs.declared.Place.{Place}
-use Rattle.lexer.specs.declared.Step.{Step}
-use Rattle.lexer.specs.declared.Step.TheVariants.{Done, Refused}
+use Rattle.lexer.specs.Results.{Step}
+use Rattle.std.specs.Prelude.{Ok, Err}
+use Rattle.limits.specs.declared.Refusal.{Refusal}
+use Rattle.limits.specs.declared.Refusal.TheVariants.{NotAllowed, NoToken}
+use Rattle.limits.specs.Refusals.{number_of, place_of}
 use Rattle.lexer.proofs.Laws.{cond_prop, token_at_moved}
 use Rattle.grammar.specs.Parsed.{Parsed, accepted, refused, and_then, on_token, sign, expected, phrase, followed}
 use Rattle.grammar.proofs.Growth.{Grown}
@@ -28,14 +31,11 @@ use Rattle.expressions.specs.Inner.Readers.{StandsAt, closed_step, behind_minus}
 
 -- ---- the constructors of a step are apart, and keep what they hold
 
-pub done_refused : {A : Type 0} {h : Place} {k q : ℕ} → Done h ≡ Refused k q → A
+pub done_refused : {A : Type 0} {h : Place} {e : Refusal} → ◌≡◌ {A = Step} (Ok h) (Err e) → A
 done_refused e = let z : ◌≡◌ {A = ℕ} 0 1 = cc in absurd (omega arith)
 
-pub done_place : {h g : Place} → Done h ≡ Done g → h ≡ g
+pub done_place : {h g : Place} → ◌≡◌ {A = Step} (Ok h) (Ok g) → h ≡ g
 done_place e = cc
-
-same_numbers : {A : Type 0} {k q l r : ℕ} → Refused k q ≡ Refused l r → ◌≡◌ {A = Parsed A} (refused l r) (refused k q)
-same_numbers e = cc
 
 -- ---- the token behind a part
 
@@ -89,7 +89,7 @@ looked text (refused k q) y n e = apart (sym e)
 
 module _ {A : Type 0} {text : List ℕ} {code : A → List ℕ} {p : Parsed A} {to : ℕ} {before after : List ℕ} where
   module _ {r : Step} (c : Parses text code p to before after r) where
-    pub accepted_by : {h : Place} → r ≡ Done h → Accepted text code p to before after h h.to
+    pub accepted_by : {h : Place} → r ≡ Ok h → Accepted text code p to before after h h.to
     accepted_by {h} e =
         let g = got c.writes e in
         let l = looked text p g.tree h.at g.is in
@@ -104,12 +104,12 @@ module _ {A : Type 0} {text : List ℕ} {code : A → List ℕ} {p : Parsed A} {
           wrote = g.wrote;
         }
 
-    pub refused_by : {k q : ℕ} → r ≡ Refused k q → Refuses text p k q
+    pub refused_by : {e : Refusal} → r ≡ Err e → Refuses text p (number_of e) (place_of e)
     refused_by e = record { looked = refused_part c.writes e }
 
   -- ---- and made
 
-  pub accepts : {r : Step} {h : Place} → r ≡ Done h → Accepted text code p to before after h h.to → Parses text code p to before after r
+  pub accepts : {r : Step} {h : Place} → r ≡ Ok h → Accepted text code p to before after h h.to → Parses text code p to before after r
   unfolding looked_ahead
   accepts {h = h} e a = record {
     writes = W.writes e (record {
@@ -122,10 +122,10 @@ module _ {A : Type 0} {text : List ℕ} {code : A → List ℕ} {p : Parsed A} {
   }
 
   -- with other bytes written than the token was read with
-  pub accepts_up_to : {r : Step} {h : Place} {t : ℕ} → r ≡ Done (up_to h t) → Accepted text code p to before after h t → Parses text code p to before after r
+  pub accepts_up_to : {r : Step} {h : Place} {t : ℕ} → r ≡ Ok (up_to h t) → Accepted text code p to before after h t → Parses text code p to before after r
   accepts_up_to {t = t} e a = accepts e (record { tree = a.tree; is = a.is; stands = stands_up_to t a.stands; count = a.count; wrote = a.wrote })
 
-  pub refuses : {k q : ℕ} → Refuses text p k q → Parses text code p to before after (Refused k q)
+  pub refuses : {e : Refusal} → Refuses text p (number_of e) (place_of e) → Parses text code p to before after (Err e)
   refuses e = record { writes = W.refuses refl e.looked }
 
   -- a step's answer under another name, and of the same part
@@ -136,7 +136,7 @@ module _ {A : Type 0} {text : List ℕ} {code : A → List ℕ} {p : Parsed A} {
   same_part {r = r} e c = subst (λ (x : Parsed A). Parses text code x to before after r) (sym e) c
 
 -- a refusal passed on, where it refuses a larger part too
-pub passed : {A B : Type 0} {text : List ℕ} {code : A → List ℕ} {more : B → List ℕ} {p : Parsed A} {w : Parsed B} {to u : ℕ} {b a before after : List ℕ} {r : Step} {k q : ℕ} → Parses text code p u b a r → r ≡ Refused k q → (Refuses text p k q → Refuses text w k q) → Parses text more w to before after r
+pub passed : {A B : Type 0} {text : List ℕ} {code : A → List ℕ} {more : B → List ℕ} {p : Parsed A} {w : Parsed B} {to u : ℕ} {b a before after : List ℕ} {r : Step} {e : Refusal} → Parses text code p u b a r → r ≡ Err e → (Refuses text p (number_of e) (place_of e) → Refuses text w (number_of e) (place_of e)) → Parses text more w to before after r
 passed c e f = answers e (refuses (f (refused_by c e)))
 
 -- a refusal of the part itself
@@ -158,24 +158,24 @@ module _ {A B : Type 0} (text : List ℕ) (f : A → ℕ → Parsed B) (g : (a :
 -- ---- the token that `ahead` reads
 
 module _ (text : List ℕ) (at to : ℕ) {w : Step} (e : w ≡ token_step (token_at text at)) where
-  pub ahead_done : {x : Place} → w ≡ Done x → Done (record { at = at; kind = x.kind; start = x.start; end = x.end; to = to; number = x.number; value = x.value }) ≡ step_at (token_at text at) at to
+  pub ahead_done : {x : Place} → w ≡ Ok x → Ok (record { at = at; kind = x.kind; start = x.start; end = x.end; to = to; number = x.number; value = x.value }) ≡ step_at (token_at text at) at to
   ahead_done {x} i = go (token_at text at) (sym i ∙ e)
     where
-      go : (r : TokenRead) → Done x ≡ token_step r → Done (record { at = at; kind = x.kind; start = x.start; end = x.end; to = to; number = x.number; value = x.value }) ≡ step_at r at to
+      go : (r : TokenRead) → Ok x ≡ token_step r → Ok (record { at = at; kind = x.kind; start = x.start; end = x.end; to = to; number = x.number; value = x.value }) ≡ step_at r at to
       go (token k s n) d =
           let j : x ≡ record { at = s; kind = kind_number k; start = s; end = n; to = 0; number = 0; value = pos 0 } = done_place d in
-          ap (λ (y : Place). Done (record { at = at; kind = y.kind; start = y.start; end = y.end; to = to; number = y.number; value = y.value })) j
+          ap (λ (y : Place). Ok (record { at = at; kind = y.kind; start = y.start; end = y.end; to = to; number = y.number; value = y.value })) j
       go (fault q) d = done_refused d
 
-  pub ahead_none : {k q : ℕ} → w ≡ Refused k q → w ≡ step_at (token_at text at) at to
-  ahead_none {k} {q} i = i ∙ go (token_at text at) (sym i ∙ e)
+  pub ahead_none : {e : Refusal} → w ≡ Err e → w ≡ step_at (token_at text at) at to
+  ahead_none {e = f} i = i ∙ go (token_at text at) (sym i ∙ e)
     where
-      go : (r : TokenRead) → Refused k q ≡ token_step r → Refused k q ≡ step_at r at to
+      go : (r : TokenRead) → Err f ≡ token_step r → Err f ≡ step_at r at to
       go (token k s n) d = done_refused (sym d)
       go (fault p) d = d
 
 -- a step at a token
-stands_at : {h : Place} (text : List ℕ) (n u : ℕ) (r : TokenRead) → token_at text n ≡ r → Done h ≡ step_at r n u → (h.at ≡ n) × (h.to ≡ u) × StandsAt text h
+stands_at : {h : Place} (text : List ℕ) (n u : ℕ) (r : TokenRead) → token_at text n ≡ r → Ok h ≡ step_at r n u → (h.at ≡ n) × (h.to ≡ u) × StandsAt text h
 stands_at {h} text n u (token k s m) i e =
     let j = done_place e in
     let ha : h.at ≡ n = ap (λ (x : Place). x.at) j in
@@ -185,7 +185,7 @@ stands_at {h} text n u (token k s m) i e =
 stands_at text n u (fault q) i e = done_refused e
 
 module _ (text : List ℕ) (at to : ℕ) {r : Step} where
-  module _ {h : Place} (d : r ≡ Done h) (e : r ≡ step_at (token_at text at) at to) where
+  module _ {h : Place} (d : r ≡ Ok h) (e : r ≡ step_at (token_at text at) at to) where
     pub ahead_at : h.at ≡ at
     ahead_at = (stands_at text at to (token_at text at) refl (sym d ∙ e)).0
 
@@ -193,12 +193,12 @@ module _ (text : List ℕ) (at to : ℕ) {r : Step} where
     ahead_stands = (stands_at text at to (token_at text at) refl (sym d ∙ e)).2
 
   -- what stands there is no token, and the part that begins with it is refused
-  pub ahead_fault : {A : Type 0} {code : A → List ℕ} {p : Parsed A} {u : ℕ} {before after : List ℕ} {k q : ℕ} → r ≡ Refused k q → r ≡ step_at (token_at text at) at to → ((m : ℕ) → token_at text at ≡ fault m → p ≡ refused no_token m) → Parses text code p u before after r
-  ahead_fault {p = p} {k = k} {q = q} d e f = answers d (refuses (refused_now (go (token_at text at) refl (sym d ∙ e))))
+  pub ahead_fault : {A : Type 0} {code : A → List ℕ} {p : Parsed A} {u : ℕ} {before after : List ℕ} {e : Refusal} → r ≡ Err e → r ≡ step_at (token_at text at) at to → ((m : ℕ) → token_at text at ≡ fault m → p ≡ refused no_token m) → Parses text code p u before after r
+  ahead_fault {p = p} {e = x} d e f = answers d (refuses (refused_now (go (token_at text at) refl (sym d ∙ e))))
     where
-      go : (w : TokenRead) → token_at text at ≡ w → Refused k q ≡ step_at w at to → p ≡ refused k q
+      go : (w : TokenRead) → token_at text at ≡ w → Err x ≡ step_at w at to → p ≡ refused (number_of x) (place_of x)
       go (token w s m) i c = done_refused (sym c)
-      go (fault m) i c = f m i ∙ same_numbers c
+      go (fault m) i c = let j : NoToken m ≡ x = cc in f m i ∙ ap (λ (y : Refusal). refused (number_of y) (place_of y)) j
 
 -- an accepted part that ends at n, behind which `ahead` read
 pub ended : {A : Type 0} {text : List ℕ} {code : A → List ℕ} {p : Parsed A} {to t n : ℕ} {before after : List ℕ} {r : Step} (a : A) → p ≡ accepted a n → t ≡ to + length (code a) → after ≡ sets before to (code a) → r ≡ step_at (token_at text n) n t → Parses text code p to before after r
@@ -215,7 +215,7 @@ unfolding looked_ahead
 recoded {A} {B} {text} {code} {more} {to} {n} {before} {after} {r} {a} b c e = go r refl
   where
     go : (s : Step) → r ≡ s → Parses text more (accepted b n) to before after r
-    go (Done h) d =
+    go (Ok h) d =
         let x = accepted_by c d in
         let i : x.tree ≡ a = sym (same_value x.is) in
         accepts d (record {
@@ -225,12 +225,12 @@ recoded {A} {B} {text} {code} {more} {to} {n} {before} {after} {r} {a} b c e = g
           count = rw (e, ← i) x.count;
           wrote = rw (e, ← i) x.wrote;
         })
-    go (Refused k q) d = answers d (refuses (record { looked = behind (refused_by c d).looked }))
+    go (Err x) d = answers d (refuses (record { looked = behind (refused_by c d).looked }))
       where
-        behind : looked_ahead text (accepted a n) ≡ refused k q → looked_ahead text (accepted b n) ≡ refused k q
+        behind : looked_ahead text (accepted a n) ≡ refused (number_of x) (place_of x) → looked_ahead text (accepted b n) ≡ refused (number_of x) (place_of x)
         behind f = by (token_at text n) f
           where
-            by : (w : TokenRead) → ◌≡◌ {A = Parsed (Followed A)} (on_token w (λ k s m. accepted (record { part = a; kind = k; start = s; end = m }) n)) (refused k q) → ◌≡◌ {A = Parsed (Followed B)} (on_token w (λ k s m. accepted (record { part = b; kind = k; start = s; end = m }) n)) (refused k q)
+            by : (w : TokenRead) → ◌≡◌ {A = Parsed (Followed A)} (on_token w (λ k s m. accepted (record { part = a; kind = k; start = s; end = m }) n)) (refused (number_of x) (place_of x)) → ◌≡◌ {A = Parsed (Followed B)} (on_token w (λ k s m. accepted (record { part = b; kind = k; start = s; end = m }) n)) (refused (number_of x) (place_of x))
             by (token w s m) f = apart f
             by (fault m) f = same_refusal f
 
@@ -248,11 +248,11 @@ one_more {code = code} {to = to} {before = before} a b c hw hc hu hl = record {
 
 -- ---- a closing bracket
 
-module _ (text : List ℕ) (w : ℕ) {part : Step} {h : Place} (e : part ≡ Done h) where
+module _ (text : List ℕ) (w : ℕ) {part : Step} {h : Place} (e : part ≡ Ok h) where
   pub closed_at : {r : Step} → h.kind ≡ w → r ≡ step_at (token_at text h.end) h.end h.to → r ≡ closed_step text w part
   closed_at k i = rw (e, eq-eqb _ _ k) i
 
-  pub unclosed_at : (h.kind ≡ w → ⊥) → Refused not_allowed h.start ≡ closed_step text w part
+  pub unclosed_at : (h.kind ≡ w → ⊥) → Err (NotAllowed h.start) ≡ closed_step text w part
   unclosed_at k = rw (e, ne_eqb _ _ k)
 
 -- p, and then a token of kind w
@@ -278,12 +278,12 @@ module _ {A : Type 0} {text : List ℕ} {code : A → List ℕ} {p : Parsed A} {
     unclosed e = rw (a.is, a.stands.read, untold a.stands w e)
 
   pub closed_parses : (r : Step) → Parses text code p to before after r → Parses text code (closing text w p) to before after (closed_step text (kind_number w) r)
-  closed_parses (Done h) c =
+  closed_parses (Ok h) c =
       let a = accepted_by c refl in
       cond_prop (Parses text code (closing text w p) to before after) (eqb h.kind (kind_number w)) _ _
       (λ e. ended a.tree (closed_by_lem a (eqb-true _ _ e)) a.count a.wrote refl)
       (λ e. refuses (refused_now (unclosed a (eqb-false _ _ e))))
-  closed_parses (Refused k q) c = refuses (closing_refuses w (refused_by c refl))
+  closed_parses (Err e) c = refuses (closing_refuses w (refused_by c refl))
 
 -- ---- room
 
@@ -318,7 +318,7 @@ module _ {text : List ℕ} {h : Place} {to : ℕ} (r : Room text h.at to) (k : S
       (record { short = r.short; within = g'.1; room = omega (arith, a.count) }, omega arith)
 
 -- at the token that `ahead` read, and behind it
-module _ (text : List ℕ) (at to : ℕ) {r : Step} {h : Place} {u : ℕ} (d : r ≡ Done h) (e : r ≡ step_at (token_at text at) at to) (m : Room text at u) where
+module _ (text : List ℕ) (at to : ℕ) {r : Step} {h : Place} {u : ℕ} (d : r ≡ Ok h) (e : r ≡ step_at (token_at text at) at to) (m : Room text at u) where
   pub room_at : Room text h.at u
   room_at = subst (λ (n : ℕ). Room text n u) (sym (ahead_at text at to d e)) m
 
@@ -331,11 +331,11 @@ module _ (text : List ℕ) (to : ℕ) (h : Place) where
   pub behind_sign : {r : Step} → h.kind ≡ kind_number minus → r ≡ step_at (token_at text h.end) h.end to → r ≡ behind_minus text to h
   behind_sign k i = rw (eq-eqb _ _ k) i
 
-  pub behind_none : (h.kind ≡ kind_number minus → ⊥) → Done h ≡ behind_minus text to h
+  pub behind_none : (h.kind ≡ kind_number minus → ⊥) → Ok h ≡ behind_minus text to h
   behind_none k = rw (ne_eqb _ _ k)
 
   -- the two ways
-  pub by_minus : {P : Type 0} {s : Step} → s ≡ behind_minus text to h → (h.kind ≡ kind_number minus → s ≡ step_at (token_at text h.end) h.end to → P) → ((h.kind ≡ kind_number minus → ⊥) → s ≡ Done h → P) → P
+  pub by_minus : {P : Type 0} {s : Step} → s ≡ behind_minus text to h → (h.kind ≡ kind_number minus → s ≡ step_at (token_at text h.end) h.end to → P) → ((h.kind ≡ kind_number minus → ⊥) → s ≡ Ok h → P) → P
   by_minus {P} {s} f m n = go (eqb h.kind (kind_number minus)) refl
     where
       go : (b : Bool) → eqb h.kind (kind_number minus) ≡ b → P
@@ -343,7 +343,7 @@ module _ (text : List ℕ) (to : ℕ) (h : Place) where
       go false i = let k = eqb-false _ _ i in n k (f ∙ sym (behind_none k))
 
 -- `ahead` read h, and g is the token behind a `-` there, or h
-module _ (text : List ℕ) (at to : ℕ) {r : Step} {h : Place} (d : r ≡ Done h) (e : r ≡ step_at (token_at text at) at to) {s : Step} (f : s ≡ behind_minus text to h) {g : Place} (j : s ≡ Done g) where
+module _ (text : List ℕ) (at to : ℕ) {r : Step} {h : Place} (d : r ≡ Ok h) (e : r ≡ step_at (token_at text at) at to) {s : Step} (f : s ≡ behind_minus text to h) {g : Place} (j : s ≡ Ok g) where
   pub operand_stands : StandsAt text g
   operand_stands =
       by_minus text to h f

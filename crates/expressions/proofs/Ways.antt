@@ -24,8 +24,9 @@ use Rattle.grammar.specs.Expressions.{Scope, with_id, current_at, previous_value
 use Rattle.grammar.specs.Inner.Bytes.{bytes_e}
 use Rattle.grammar.proofs.Growth.{Grown, products_end, sums-end, primary_grown, factor_grown, term_grown, expression_grown}
 use Rattle.lexer.specs.declared.Place.{Place}
-use Rattle.lexer.specs.declared.Step.{Step}
-use Rattle.lexer.specs.declared.Step.TheVariants.{Done, Refused}
+use Rattle.lexer.specs.Results.{Step}
+use Rattle.std.specs.Prelude.{Ok, Err}
+use Rattle.limits.specs.declared.Refusal.{Refusal}
 use Rattle.expressions.specs.declared.scope.Names.{Names}
 use Rattle.expressions.specs.Inner.Scopes.{scope_of, Declared}
 use Rattle.expressions.specs.Inner.Steps.{step_at, looked_ahead, Parses, Room}
@@ -198,7 +199,7 @@ module _ (text starts ends : List ℕ) (names : Names) (left at : ℕ) where
   factor_fault q e = rw e
 
   -- `ahead` read the token h there, and s is the token behind a `-`, or h
-  module _ (to : ℕ) {r : Step} {h : Place} (d : r ≡ Done h) (e : r ≡ step_at (token_at text at) at to) {s : Step} (f : s ≡ behind_minus text to h) where
+  module _ (to : ℕ) {r : Step} {h : Place} (d : r ≡ Ok h) (e : r ≡ step_at (token_at text at) at to) {s : Step} (f : s ≡ behind_minus text to h) where
     here : StandsAt text h
     here = ahead_stands text at to d e
 
@@ -214,27 +215,27 @@ module _ (text starts ends : List ℕ) (names : Names) (left at : ℕ) where
     unfolding negative primary
     minus_fault m q i = factor_minus m ∙ rw i
 
-    pub operand-fault : {u : ℕ} {before after : List ℕ} {k q : ℕ} → s ≡ Refused k q → Parses text bytes_e (factor_in left sc at) u before after s
+    pub operand-fault : {u : ℕ} {before after : List ℕ} {e : Refusal} → s ≡ Err e → Parses text bytes_e (factor_in left sc at) u before after s
     operand-fault j =
         by_minus text to h f
         (λ m i. ahead_fault text h.end to j i (minus_fault m))
         (λ n i. done_refused (sym i ∙ j))
 
     -- with the token g the primary begins
-    module _ {g : Place} (j : s ≡ Done g) {v : ℕ} {before after : List ℕ} {p : Step} (c : Parses text bytes_e (primary_in left sc g.at) v before after p) where
-      plain_operand : (h.kind ≡ kind_number minus → ⊥) → s ≡ Done h → factor_in left sc at ≡ primary_in left sc g.at
+    module _ {g : Place} (j : s ≡ Ok g) {v : ℕ} {before after : List ℕ} {p : Step} (c : Parses text bytes_e (primary_in left sc g.at) v before after p) where
+      plain_operand : (h.kind ≡ kind_number minus → ⊥) → s ≡ Ok h → factor_in left sc at ≡ primary_in left sc g.at
       plain_operand n i = factor_plain n ∙ ap (λ (x : Place). primary_in left sc x.at) (done_place (sym i ∙ j))
 
       minus_operand : h.kind ≡ kind_number minus → s ≡ step_at (token_at text h.end) h.end to → factor_in left sc at ≡ negative (primary_in left sc g.at)
       minus_operand m i = rw (ahead_at text h.end to j i) (factor_minus m)
 
-      pub factor_refuses : {k q l : ℕ} {first last : List ℕ} → p ≡ Refused k q → Parses text bytes_e (factor_in left sc at) l first last p
+      pub factor_refuses : {x : Refusal} {l : ℕ} {first last : List ℕ} → p ≡ Err x → Parses text bytes_e (factor_in left sc at) l first last p
       factor_refuses x =
           by_minus text to h f
           (λ m i. same_part (minus_operand m i) (passed c x negative_refuses))
           (λ n i. same_part (plain_operand n i) (passed c x (λ y. y)))
 
-      module _ {l : Place} {z x : ℕ} {last : List ℕ} (y : p ≡ Done l) (code : z ≡ minus_code h.kind) (put : (x ≡ l.to + length (operator_bytes z)) × (last ≡ sets after l.to (operator_bytes z))) where
+      module _ {l : Place} {z x : ℕ} {last : List ℕ} (y : p ≡ Ok l) (code : z ≡ minus_code h.kind) (put : (x ≡ l.to + length (operator_bytes z)) × (last ≡ sets after l.to (operator_bytes z))) where
         written_with : (w : ℕ) → z ≡ w → (x ≡ l.to + length (operator_bytes w)) × (last ≡ sets after l.to (operator_bytes w))
         written_with w i = subst (λ (o : ℕ). (x ≡ l.to + length (operator_bytes o)) × (last ≡ sets after l.to (operator_bytes o))) i put
 
@@ -243,7 +244,7 @@ module _ (text starts ends : List ℕ) (names : Names) (left at : ℕ) where
             let w = written_with 0 i in
             record { tree = a.tree; is = a.is; stands = a.stands; count = omega (arith, w.0, a.count); wrote = w.1 ∙ a.wrote }
 
-        pub factor_accepts : Parses text bytes_e (factor_in left sc at) v before last (Done (up_to l x))
+        pub factor_accepts : Parses text bytes_e (factor_in left sc at) v before last (Ok (up_to l x))
         factor_accepts =
             by_minus text to h f
             (λ m i.
@@ -267,5 +268,5 @@ module _ {text starts ends : List ℕ} {names : Names} (d : Declared starts ends
   expression_grows = expression_grown _ (few_names text d) left at r.within
 
 -- behind a primary there is room for a byte
-pub primary_fits : (text starts ends : List ℕ) (names : Names) (left : ℕ) {at to : ℕ} {before after : List ℕ} {r : Step} {h : Place} → r ≡ Done h → Parses text bytes_e (primary_in left (scope_of text starts ends names) at) to before after r → Declared starts ends names → Room text at to → h.to < 2 ^ 32
+pub primary_fits : (text starts ends : List ℕ) (names : Names) (left : ℕ) {at to : ℕ} {before after : List ℕ} {r : Step} {h : Place} → r ≡ Ok h → Parses text bytes_e (primary_in left (scope_of text starts ends names) at) to before after r → Declared starts ends names → Room text at to → h.to < 2 ^ 32
 primary_fits text starts ends names left e c d m = omega (arith, room_fits (room_after m (primary_grows d left m) (accepted_by c e)))

@@ -15,7 +15,8 @@ ghost use Rattle.expressions.specs.Inner.Steps.{step_at, Parses, Room};
 ghost use Rattle.expressions.specs.Inner.Readers.{text_only, primary_in, factor_in, term_in, expression_in, Codes, StandsAt, closed_step, operator_bytes, minus_code, behind_minus};
 
 use bytecode::opcode;
-use lexer::{Found, Place, Step};
+use lexer::{Place, Step};
+use limits::Refusal;
 use scope::Names;
 
 pub mod scope;
@@ -24,26 +25,21 @@ pub mod scope;
 pub fn ahead(text: &[u8], at: usize, to: usize) -> Step
     ensures { result ≡ step_at (token_at text.now at) at to }
 {
-    let read = lexer::token_at(text, at);
-    let Step::Done(mut token) = read else {
-        return read;
-    };
+    let mut token = lexer::token_at(text, at)?;
     token.at = at;
     token.to = to;
-    Step::Done(token)
+    Ok(token)
 }
 
 // A part with a token of the kind given behind it, and the token behind that one.
 pub fn closed(text: &[u8], part: Step, kind: u32) -> Step
     ensures { result ≡ closed_step text.now kind part }
 {
-    let Step::Done(behind) = part else {
-        return part;
-    };
+    let behind = part?;
     if behind.kind == kind {
         return ahead(text, behind.end, behind.to);
     }
-    Step::Refused(limits::NOT_ALLOWED, behind.start)
+    Err(Refusal::NotAllowed(behind.start))
 }
 
 // The code of an operator of a sum, and of a product; 0 for any other token.
@@ -91,7 +87,7 @@ fn behind_minus(text: &[u8], here: Place, to: usize) -> Step
     if here.kind == lexer::MINUS {
         return ahead(text, here.end, to);
     }
-    Step::Done(here)
+    Ok(here)
 }
 
 // The byte of an operator, and nothing for code 0; the place behind it.
@@ -121,7 +117,7 @@ fn number(text: &[u8], start: usize, end: usize, out: &mut [u8], to: usize) -> S
 {
     let v = lexer::value(lexer::name(text, start, end));
     if limits::NUMBER_LIMIT < v {
-        return Step::Refused(limits::OUT_OF_LIMIT, start);
+        return Err(Refusal::OutOfLimit(start));
     }
     instruction(
         text,
@@ -149,7 +145,7 @@ fn current(
     ensures { Parses text.now bytes_e (current_at (scope_of text.now starts.now ends.now names) start end) to out.old out.new result }
 {
     if lexer::is_over_long(start, end) {
-        return Step::Refused(limits::TOO_MANY, start);
+        return Err(Refusal::TooMany(start));
     }
     let found = lexer::find(
         text,
@@ -158,13 +154,13 @@ fn current(
         names.count,
         lexer::name(text, start, end),
     );
-    let Found::At(id) = found else {
-        return Step::Refused(limits::WRONG_NAME, start);
+    let Some(id) = found else {
+        return Err(Refusal::WrongName(start));
     };
     if scope::is_known(names, id) {
         return instruction(text, end, opcode::CURRENT, id as u64, out, to);
     }
-    Step::Refused(limits::TOO_EARLY, start)
+    Err(Refusal::TooEarly(start))
 }
 
 // The previous value of the name that stands behind the `_` at `start`.
@@ -184,7 +180,7 @@ fn previous(
 {
     let from = start + 1;
     if lexer::is_over_long(from, end) {
-        return Step::Refused(limits::TOO_MANY, start);
+        return Err(Refusal::TooMany(start));
     }
     let found = lexer::find(
         text,
@@ -193,8 +189,8 @@ fn previous(
         names.count,
         lexer::name(text, from, end),
     );
-    let Found::At(id) = found else {
-        return Step::Refused(limits::WRONG_NAME, start);
+    let Some(id) = found else {
+        return Err(Refusal::WrongName(start));
     };
     instruction(text, end, opcode::PREVIOUS, id as u64, out, to)
 }
@@ -221,14 +217,11 @@ pub fn expression(
     let mut t = to;
     let mut code: u8 = 0;
     loop {
-        let part = term(text, starts, ends, names, a, left, out, t);
-        let Step::Done(mut behind) = part else {
-            return part;
-        };
+        let mut behind = term(text, starts, ends, names, a, left, out, t)?;
         behind.to = put_operator(out, behind.to, code);
         code = sum_code(behind.kind);
         if code == 0 {
-            return Step::Done(behind);
+            return Ok(behind);
         }
         a = behind.end;
         t = behind.to;
@@ -256,14 +249,11 @@ fn term(
     let mut t = to;
     let mut code: u8 = 0;
     loop {
-        let part = factor(text, starts, ends, names, a, left, out, t);
-        let Step::Done(mut behind) = part else {
-            return part;
-        };
+        let mut behind = factor(text, starts, ends, names, a, left, out, t)?;
         behind.to = put_operator(out, behind.to, code);
         code = product_code(behind.kind);
         if code == 0 {
-            return Step::Done(behind);
+            return Ok(behind);
         }
         a = behind.end;
         t = behind.to;
@@ -286,20 +276,11 @@ fn factor(
     requires room { Room text.now at to }
     ensures { Parses text.now bytes_e (factor_in left (scope_of text.now starts.now ends.now names) at) to out.old out.new result }
 {
-    let read = ahead(text, at, to);
-    let Step::Done(first) = read else {
-        return read;
-    };
-    let second = behind_minus(text, first, to);
-    let Step::Done(here) = second else {
-        return second;
-    };
-    let inner = primary(text, starts, ends, names, here, left, out, to);
-    let Step::Done(mut behind) = inner else {
-        return inner;
-    };
+    let first = ahead(text, at, to)?;
+    let here = behind_minus(text, first, to)?;
+    let mut behind = primary(text, starts, ends, names, here, left, out, to)?;
     behind.to = put_operator(out, behind.to, minus_code(first.kind));
-    Step::Done(behind)
+    Ok(behind)
 }
 
 // A number, a name, a previous value, or an expression in brackets.
@@ -333,7 +314,7 @@ fn primary(
             text, starts, ends, names, here.start, here.end, left, out, to,
         );
     }
-    Step::Refused(limits::NOT_ALLOWED, here.start)
+    Err(Refusal::NotAllowed(here.start))
 }
 
 // An expression in the bracket from `start` to `end`, with `left` brackets left to open.
@@ -354,7 +335,7 @@ fn bracket(
     ensures { Parses text.now bytes_e (bracket left (scope_of text.now starts.now ends.now names) start end) to out.old out.new result }
 {
     if left == 0 {
-        return Step::Refused(limits::TOO_MANY, start);
+        return Err(Refusal::TooMany(start));
     }
     let inner = expression(text, starts, ends, names, end, left - 1, out, to);
     closed(text, inner, lexer::CLOSE_ROUND)

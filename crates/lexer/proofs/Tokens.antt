@@ -14,8 +14,11 @@ use Rattle.lexer.specs.Token.{Kind, kind_number, unknown, ending, name, other_ca
 use Rattle.lexer.specs.Lexer.{is_space, is_digit, is_letter, is_alphanumeric, run_end, kind_in, grammar_word, exact_word, word_of, pair_of, sign_of, read_of, sign_at, word_at, digits_at, previous_at, token_of, token_past, token_at}
 use Rattle.lexer.specs.Results.{kind_of, token_is, token_step, Lies, PlacedIn}
 use Rattle.lexer.specs.declared.Place.{Place}
-use Rattle.lexer.specs.declared.Step.{Step}
-use Rattle.lexer.specs.declared.Step.TheVariants.{Done, Refused}
+use Rattle.lexer.specs.Results.{Step}
+use Rattle.std.specs.Prelude.{Ok, Err}
+use Rattle.limits.specs.declared.Refusal.{Refusal}
+use Rattle.limits.specs.declared.Refusal.TheVariants.{NoToken}
+use Rattle.limits.specs.Refusals.{place_of}
 use Rattle.lexer.proofs.Laws.{cond_prop, run_out, token_at_moved}
 use Rattle.lexer.proofs.KindNumbers.{ending_number, is_unknown, is_known, number_kind, known_number}
 
@@ -31,14 +34,14 @@ module _ (a b s : ℕ) where
     unfolding sign_at read_of
     sign_one j ej f = rw (is_unknown (pair_of a b) k e z, is_known (sign_of a) j ej f, ej)
 
-    pub sign_none : (j : ℕ) → j ≡ kind_number (sign_of a) → j ≡ 0 → Refused no_token s ≡ token_step (sign_at a b s)
+    pub sign_none : (j : ℕ) → j ≡ kind_number (sign_of a) → j ≡ 0 → Err (NoToken s) ≡ token_step (sign_at a b s)
     unfolding sign_at read_of
     sign_none j ej y = rw (is_unknown (pair_of a b) k e z, is_unknown (sign_of a) j ej y)
 
 -- ---- `_` at s
 
 module _ (text : List ℕ) (s b : ℕ) (hb : b ≡ get_or text (s + 1) 0) where
-  pub previous_lone : is_letter b ≡ false → Refused no_token s ≡ token_step (previous_at text s)
+  pub previous_lone : is_letter b ≡ false → Err (NoToken s) ≡ token_step (previous_at text s)
   unfolding previous_at
   previous_lone h = rw (← hb, h)
 
@@ -51,7 +54,7 @@ module _ (text : List ℕ) (s b : ℕ) (hb : b ≡ get_or text (s + 1) 0) where
     unfolding previous_at kind_number
     previous_name_lem k2 = rw (← hb, h, word_is, k2, ← he)
 
-    pub previous_word : (k ≡ 2 → ⊥) → Refused no_token s ≡ token_step (previous_at text s)
+    pub previous_word : (k ≡ 2 → ⊥) → Err (NoToken s) ≡ token_step (previous_at text s)
     unfolding previous_at
     previous_word f = rw (← hb, h, word_is, ne_eqb _ _ f)
 
@@ -152,25 +155,25 @@ module _ (text : List ℕ) (at k s n : ℕ) (e : token (kind_of k) s n ≡ token
 
 -- a token that is answered, and one that is none
 module _ (text : List ℕ) (at : ℕ) where
-  token_is_lem : (p : Place) → Done p ≡ token_step (token_at text at) → token (kind_of p.kind) p.start p.end ≡ token_at text at
+  token_is_lem : (p : Place) → Ok p ≡ token_step (token_at text at) → token (kind_of p.kind) p.start p.end ≡ token_at text at
   token_is_lem p e = go (token_at text at) e
     where
-      go : (r : TokenRead) → Done p ≡ token_step r → token (kind_of p.kind) p.start p.end ≡ r
+      go : (r : TokenRead) → Ok p ≡ token_step r → token (kind_of p.kind) p.start p.end ≡ r
       go (token k s n) e =
           let i : p ≡ record { at = s; kind = kind_number k; start = s; end = n; to = 0; number = 0; value = pos 0 } = cc in
           rw (i, number_kind k)
       go (fault q) e = let z : ◌≡◌ {A = ℕ} 0 1 = cc in absurd (omega arith)
 
-  fault_is : (k q : ℕ) → Refused k q ≡ token_step (token_at text at) → (token_at text at ≡ fault q) × (k ≡ no_token)
-  fault_is k q e = go (token_at text at) e
+  fault_is : (e : Refusal) → Err e ≡ token_step (token_at text at) → (token_at text at ≡ fault (place_of e)) × (e ≡ NoToken (place_of e))
+  fault_is e h = go (token_at text at) h
     where
-      go : (r : TokenRead) → Refused k q ≡ token_step r → (r ≡ fault q) × (k ≡ no_token)
+      go : (r : TokenRead) → Err e ≡ token_step r → (r ≡ fault (place_of e)) × (e ≡ NoToken (place_of e))
       go (token w s n) e = let z : ◌≡◌ {A = ℕ} 0 1 = cc in absurd (omega arith)
-      go (fault p) e = (cc, cc)
+      go (fault p) h = let i : e ≡ NoToken p = cc in rw i (refl, refl)
 
   placed : (t : Step) → t ≡ token_step (token_at text at) → PlacedIn (length text) at t
-  placed (Done p) e = lies text at p.kind p.start p.end (token_is_lem p e)
-  placed (Refused k q) e = tt
+  placed (Ok p) e = lies text at p.kind p.start p.end (token_is_lem p e)
+  placed (Err f) e = tt
 
 -- ---- the token at `at`, from what its reader has found on its way
 
@@ -215,8 +218,8 @@ module _ (text : List ℕ) (at s : ℕ) (hs : s ≡ run_end is_space text at) wh
 -- ---- for callers: what an answer says once it is taken apart
 
 module _ (text : List ℕ) (at : ℕ) (t : Step) (a : Answers text at t) where
-  pub is_token : (p : Place) → t ≡ Done p → (token_at text at ≡ token (kind_of p.kind) p.start p.end) × Lies (length text) at p.kind p.start p.end
+  pub is_token : (p : Place) → t ≡ Ok p → (token_at text at ≡ token (kind_of p.kind) p.start p.end) × Lies (length text) at p.kind p.start p.end
   is_token p e = (sym (token_is_lem text at p (sym e ∙ a.0)), subst (PlacedIn (length text) at) e a.1)
 
-  pub is_fault : (k q : ℕ) → t ≡ Refused k q → (token_at text at ≡ fault q) × (k ≡ no_token)
-  is_fault k q e = fault_is text at k q (sym e ∙ a.0)
+  pub is_fault : (e : Refusal) → t ≡ Err e → (token_at text at ≡ fault (place_of e)) × (e ≡ NoToken (place_of e))
+  is_fault e h = fault_is text at e (sym h ∙ a.0)

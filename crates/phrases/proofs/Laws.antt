@@ -8,8 +8,9 @@ use Rattle.limits.specs.Limits.{not_allowed}
 use Rattle.lexer.specs.Token.{kind_number, is, last_kind}
 use Rattle.lexer.specs.Results.{kind_of, reached_at}
 use Rattle.lexer.specs.declared.Place.{Place}
-use Rattle.lexer.specs.declared.Step.{Step}
-use Rattle.lexer.specs.declared.Step.TheVariants.{Done, Refused}
+use Rattle.lexer.specs.Results.{Step}
+use Rattle.std.specs.Prelude.{Ok, Err}
+use Rattle.limits.specs.declared.Refusal.{Refusal}
 use Rattle.lexer.proofs.KindNumbers.{kind_number_lem, kind_is_not}
 use Rattle.lexer.proofs.Tokens.{Answers, is_token, is_fault}
 use Rattle.grammar.specs.Parsed.{Parsed, accepted, refused, and_then, Wanted, is_wanted, expected, phrase}
@@ -27,11 +28,11 @@ other_kinds k w h i f = kind_is_not k (kind_of w) h (λ e. f (e ∙ kind_number_
 -- ---- one token, from what was read
 
 module _ (text : List ℕ) (at : ℕ) (w : Wanted) {t : Step} (a : Answers text at t) where
-  pub faulty : {k q : ℕ} → t ≡ Refused k q → parsed_of nothing t ≡ expected text w at
+  pub faulty : {e : Refusal} → t ≡ Err e → parsed_of nothing t ≡ expected text w at
   unfolding expected
-  faulty {k} {q} g = let f = is_fault text at t a k q g in rw (g, f.0, f.1)
+  faulty {e} g = let f = is_fault text at t a e g in rw (g, f.0, f.1)
 
-  module _ {p : Place} (g : t ≡ Done p) where
+  module _ {p : Place} (g : t ≡ Ok p) where
     pub wanted : {r : Step} → r ≡ reached_at p.end 0 0 → is_wanted text w (kind_of p.kind) p.start p.end ≡ true → parsed_of nothing r ≡ expected text w at
     unfolding expected
     wanted e h = rw (e, (is_token text at t a p g).0, h)
@@ -62,18 +63,18 @@ module _ (text : List ℕ) where
   last w at e = e ∙ sym (then_none (expected text w at))
 
   -- a refusal of the first token is the answer
-  pub stops : {r : Step} {k p : ℕ} (w : Wanted) (ws : List Wanted) (at : ℕ) → parsed_of nothing r ≡ expected text w at → r ≡ Refused k p → parsed_of nothing r ≡ phrase text (w ∷ ws) at
+  pub stops : {r : Step} {e : Refusal} (w : Wanted) (ws : List Wanted) (at : ℕ) → parsed_of nothing r ≡ expected text w at → r ≡ Err e → parsed_of nothing r ≡ phrase text (w ∷ ws) at
   unfolding phrase
   stops w ws at e g = rw (← e, g)
 
   -- after the first token the others follow
-  pub goes_on_lem : {r : Step} {x : Place} {q : Parsed (Unit {0})} (w : Wanted) (ws : List Wanted) (at : ℕ) → parsed_of nothing r ≡ expected text w at → r ≡ Done x → q ≡ phrase text ws x.at → q ≡ phrase text (w ∷ ws) at
+  pub goes_on_lem : {r : Step} {x : Place} {q : Parsed (Unit {0})} (w : Wanted) (ws : List Wanted) (at : ℕ) → parsed_of nothing r ≡ expected text w at → r ≡ Ok x → q ≡ phrase text ws x.at → q ≡ phrase text (w ∷ ws) at
   unfolding phrase
   goes_on_lem w ws at e g h = rw (← e, g) h
 
   -- the same of several first tokens
-  pub stops_in : {r : Step} {k p : ℕ} (xs ys : List Wanted) (at : ℕ) → parsed_of nothing r ≡ phrase text xs at → r ≡ Refused k p → parsed_of nothing r ≡ phrase text (xs ++ ys) at
+  pub stops_in : {r : Step} {e : Refusal} (xs ys : List Wanted) (at : ℕ) → parsed_of nothing r ≡ phrase text xs at → r ≡ Err e → parsed_of nothing r ≡ phrase text (xs ++ ys) at
   stops_in xs ys at e g = rw (phrase_append xs ys at, ← e, g)
 
-  pub goes_past : {r : Step} {x : Place} {q : Parsed (Unit {0})} (xs ys : List Wanted) (at : ℕ) → parsed_of nothing r ≡ phrase text xs at → r ≡ Done x → q ≡ phrase text ys x.at → q ≡ phrase text (xs ++ ys) at
+  pub goes_past : {r : Step} {x : Place} {q : Parsed (Unit {0})} (xs ys : List Wanted) (at : ℕ) → parsed_of nothing r ≡ phrase text xs at → r ≡ Ok x → q ≡ phrase text ys x.at → q ≡ phrase text (xs ++ ys) at
   goes_past xs ys at e g h = rw (phrase_append xs ys at, ← e, g) h

@@ -5,8 +5,10 @@ use Prim.Native.Nat.{ℕ, ◌+◌}
 use lib.ListN.{length}
 use lib.Seq.{sets}
 use Rattle.lexer.specs.declared.Place.{Place}
-use Rattle.lexer.specs.declared.Step.{Step}
-use Rattle.lexer.specs.declared.Step.TheVariants.{Done, Refused}
+use Rattle.lexer.specs.Results.{Step}
+use Rattle.std.specs.Prelude.{Ok, Err}
+use Rattle.limits.specs.declared.Refusal.{Refusal}
+use Rattle.limits.specs.Refusals.{number_of, place_of}
 use Rattle.grammar.specs.Parsed.{Parsed, accepted, refused, and_then}
 use Rattle.grammar.proofs.Combine.{apart, same_value, same_end}
 use Rattle.phrases.specs.Inner.Steps.{parsed_of, nothing, written, answered, Writes}
@@ -24,7 +26,7 @@ pub record Got {A B : Type 0} (bytes : A → List ℕ) (told : Place → B) (tel
 
 module _ {A B : Type 0} {bytes : A → List ℕ} {told : Place → B} {tells : A → B} {p : Parsed A} {to : ℕ} {before after : List ℕ} where
   module _ {r : Step} (c : Writes bytes told tells p to before after r) where
-    pub got : {x : Place} → r ≡ Done x → Got bytes told tells p to before after x
+    pub got : {x : Place} → r ≡ Ok x → Got bytes told tells p to before after x
     got {x} d = go p refl (sym (ap (parsed_of (written told)) d) ∙ c.answer)
       where
         go : (q : Parsed A) → p ≡ q → ◌≡◌ {A = Parsed (ℕ × B)} (accepted (x.to, told x) x.at) (and_then q (answered bytes tells to)) → Got bytes told tells p to before after x
@@ -33,32 +35,32 @@ module _ {A B : Type 0} {bytes : A → List ℕ} {told : Place → B} {tells : A
             record { tree = a; is = i; ended = ap (λ (q : ℕ × B). q.0) (same_value f); tells_it = ap (λ (q : ℕ × B). q.1) (same_value f); wrote = c.wrote a x.at i }
         go (refused k q) e f = apart f
 
-    pub refused_part : {k q : ℕ} → r ≡ Refused k q → p ≡ refused k q
-    refused_part {k} {q} d = go p refl (sym (ap (parsed_of (written told)) d) ∙ c.answer)
+    pub refused_part : {e : Refusal} → r ≡ Err e → p ≡ refused (number_of e) (place_of e)
+    refused_part {e} d = go p refl (sym (ap (parsed_of (written told)) d) ∙ c.answer)
       where
-        go : (w : Parsed A) → p ≡ w → ◌≡◌ {A = Parsed (ℕ × B)} (refused k q) (and_then w (answered bytes tells to)) → p ≡ refused k q
-        go (accepted a m) e f = apart (sym f)
-        go (refused l m) e f = e ∙ same_refusal (sym f)
+        go : (w : Parsed A) → p ≡ w → ◌≡◌ {A = Parsed (ℕ × B)} (refused (number_of e) (place_of e)) (and_then w (answered bytes tells to)) → p ≡ refused (number_of e) (place_of e)
+        go (accepted a m) g f = apart (sym f)
+        go (refused l m) g f = g ∙ same_refusal (sym f)
 
-  pub writes : {r : Step} {x : Place} → r ≡ Done x → Got bytes told tells p to before after x → Writes bytes told tells p to before after r
+  pub writes : {r : Step} {x : Place} → r ≡ Ok x → Got bytes told tells p to before after x → Writes bytes told tells p to before after r
   writes {x = x} d g = record {
     answer = ap (parsed_of (written told)) d ∙ ap₂ (λ (t : ℕ) (b : B). accepted (t, b) x.at) g.ended g.tells_it ∙ sym (ap (λ (w : Parsed A). and_then w (answered bytes tells to)) g.is);
     wrote = λ a m e. g.wrote ∙ ap (λ (b : A). sets before to (bytes b)) (same_value (sym g.is ∙ e));
   }
 
-  pub refuses : {r : Step} {k q : ℕ} → r ≡ Refused k q → p ≡ refused k q → Writes bytes told tells p to before after r
+  pub refuses : {r : Step} {e : Refusal} → r ≡ Err e → p ≡ refused (number_of e) (place_of e) → Writes bytes told tells p to before after r
   refuses d e = record { answer = rw (d, e); wrote = λ a m f. apart (sym f ∙ e) }
 
   -- a refusal of the fixed tokens at hand, passed on
-  pub not_expected : {r : Step} {w : Parsed (Unit {0})} {k q : ℕ} → parsed_of nothing r ≡ w → r ≡ Refused k q → (w ≡ refused k q → p ≡ refused k q) → Writes bytes told tells p to before after r
+  pub not_expected : {r : Step} {w : Parsed (Unit {0})} {e : Refusal} → parsed_of nothing r ≡ w → r ≡ Err e → (w ≡ refused (number_of e) (place_of e) → p ≡ refused (number_of e) (place_of e)) → Writes bytes told tells p to before after r
   not_expected i f g = refuses f (g (sym i ∙ ap (parsed_of nothing) f))
 
 -- a refusal of a part, passed on
-pub not_part : {A B C D : Type 0} {bytes : A → List ℕ} {told : Place → B} {tells : A → B} {p : Parsed A} {to : ℕ} {before after : List ℕ} {code : C → List ℕ} {said : Place → D} {says : C → D} {w : Parsed C} {u : ℕ} {b a : List ℕ} {r : Step} {k q : ℕ} → Writes code said says w u b a r → r ≡ Refused k q → (w ≡ refused k q → p ≡ refused k q) → Writes bytes told tells p to before after r
+pub not_part : {A B C D : Type 0} {bytes : A → List ℕ} {told : Place → B} {tells : A → B} {p : Parsed A} {to : ℕ} {before after : List ℕ} {code : C → List ℕ} {said : Place → D} {says : C → D} {w : Parsed C} {u : ℕ} {b a : List ℕ} {r : Step} {e : Refusal} → Writes code said says w u b a r → r ≡ Err e → (w ≡ refused (number_of e) (place_of e) → p ≡ refused (number_of e) (place_of e)) → Writes bytes told tells p to before after r
 not_part c d g = refuses d (g (refused_part c d))
 
 -- fixed tokens that were found
-pub found : {r : Step} {w : Parsed (Unit {0})} {x : Place} → parsed_of nothing r ≡ w → r ≡ Done x → w ≡ accepted tt x.at
+pub found : {r : Step} {w : Parsed (Unit {0})} {x : Place} → parsed_of nothing r ≡ w → r ≡ Ok x → w ≡ accepted tt x.at
 found i f = sym i ∙ ap (parsed_of nothing) f
 
 -- a part under another name

@@ -10,30 +10,25 @@ ghost use Rattle.grammar.specs.Forms.{rule_opening, formula_closing, function_cl
 ghost use Rattle.phrases.specs.Inner.Steps.{parsed_of, nothing};
 
 use lexer::Step;
+use limits::Refusal;
 
 // A token of a kind.
 pub fn expect(text: &[u8], at: usize, kind: u32) -> Step
     requires { kind ≤ last_kind }
     ensures { parsed_of nothing result ≡ expected text.now (sign (kind_of kind)) at }
 {
-    let read = lexer::token_at(text, at);
-    let Step::Done(found) = read else {
-        return read;
-    };
+    let found = lexer::token_at(text, at)?;
     if found.kind == kind {
         return lexer::reached(found.end, 0, 0);
     }
-    Step::Refused(limits::NOT_ALLOWED, found.start)
+    Err(Refusal::NotAllowed(found.start))
 }
 
 // The name that the text spells from `start` to `end`.
 fn expect_name(text: &[u8], at: usize, start: usize, end: usize) -> Step
     ensures { parsed_of nothing result ≡ expected text.now (own (part text.now start end)) at }
 {
-    let read = lexer::token_at(text, at);
-    let Step::Done(token) = read else {
-        return read;
-    };
+    let token = lexer::token_at(text, at)?;
     if token.kind == lexer::NAME {
         if lexer::same_name(
             lexer::name(text, start, end),
@@ -42,17 +37,14 @@ fn expect_name(text: &[u8], at: usize, start: usize, end: usize) -> Step
             return lexer::reached(token.end, 0, 0);
         }
     }
-    Step::Refused(limits::NOT_ALLOWED, token.start)
+    Err(Refusal::NotAllowed(token.start))
 }
 
 // The previous value of that name: it stands after the `_`.
 fn expect_previous(text: &[u8], at: usize, start: usize, end: usize) -> Step
     ensures { parsed_of nothing result ≡ expected text.now (own_previous (part text.now start end)) at }
 {
-    let read = lexer::token_at(text, at);
-    let Step::Done(token) = read else {
-        return read;
-    };
+    let token = lexer::token_at(text, at)?;
     if token.kind == lexer::PREVIOUS {
         if lexer::same_name(
             lexer::name(text, start, end),
@@ -61,7 +53,7 @@ fn expect_previous(text: &[u8], at: usize, start: usize, end: usize) -> Step
             return lexer::reached(token.end, 0, 0);
         }
     }
-    Step::Refused(limits::NOT_ALLOWED, token.start)
+    Err(Refusal::NotAllowed(token.start))
 }
 
 // Tokens of two kinds.
@@ -69,10 +61,7 @@ fn two_signs(text: &[u8], at: usize, one: u32, two: u32) -> Step
     requires { (one ≤ last_kind) × (two ≤ last_kind) }
     ensures { parsed_of nothing result ≡ phrase text.now (sign (kind_of one) ∷ sign (kind_of two) ∷ []) at }
 {
-    let first = expect(text, at, one);
-    let Step::Done(a) = first else {
-        return first;
-    };
+    let a = expect(text, at, one)?;
     expect(text, a.at, two)
 }
 
@@ -81,10 +70,7 @@ fn three_signs(text: &[u8], at: usize, one: u32, two: u32, three: u32) -> Step
     requires { (one ≤ last_kind) × (two ≤ last_kind) × (three ≤ last_kind) }
     ensures { parsed_of nothing result ≡ phrase text.now (sign (kind_of one) ∷ sign (kind_of two) ∷ sign (kind_of three) ∷ []) at }
 {
-    let first = expect(text, at, one);
-    let Step::Done(a) = first else {
-        return first;
-    };
+    let a = expect(text, at, one)?;
     two_signs(text, a.at, two, three)
 }
 
@@ -106,10 +92,7 @@ pub fn formula_closing(text: &[u8], at: usize) -> Step
 pub fn function_closing(text: &[u8], at: usize) -> Step
     ensures { parsed_of nothing result ≡ phrase text.now function_closing at }
 {
-    let first = expect(text, at, lexer::CLOSE_ROUND);
-    let Step::Done(a) = first else {
-        return first;
-    };
+    let a = expect(text, at, lexer::CLOSE_ROUND)?;
     formula_closing(text, a.at)
 }
 
@@ -117,10 +100,7 @@ pub fn function_closing(text: &[u8], at: usize) -> Step
 pub fn value_opening(text: &[u8], at: usize, start: usize, end: usize) -> Step
     ensures { parsed_of nothing result ≡ phrase text.now (value_opening (part text.now start end)) at }
 {
-    let first = expect_name(text, at, start, end);
-    let Step::Done(a) = first else {
-        return first;
-    };
+    let a = expect_name(text, at, start, end)?;
     two_signs(text, a.at, lexer::EQUALS, lexer::OPEN_ROUND)
 }
 
@@ -128,10 +108,7 @@ pub fn value_opening(text: &[u8], at: usize, start: usize, end: usize) -> Step
 pub fn case_value_opening(text: &[u8], at: usize, start: usize, end: usize) -> Step
     ensures { parsed_of nothing result ≡ phrase text.now (case_value_opening (part text.now start end)) at }
 {
-    let first = expect(text, at, lexer::AMPERSAND);
-    let Step::Done(a) = first else {
-        return first;
-    };
+    let a = expect(text, at, lexer::AMPERSAND)?;
     value_opening(text, a.at, start, end)
 }
 
@@ -140,14 +117,8 @@ fn own_values(text: &[u8], at: usize, start: usize, end: usize, kind: u32) -> St
     requires { kind ≤ last_kind }
     ensures { parsed_of nothing result ≡ phrase text.now (own (part text.now start end) ∷ sign (kind_of kind) ∷ own_previous (part text.now start end) ∷ []) at }
 {
-    let first = expect_name(text, at, start, end);
-    let Step::Done(a) = first else {
-        return first;
-    };
-    let second = expect(text, a.at, kind);
-    let Step::Done(b) = second else {
-        return second;
-    };
+    let a = expect_name(text, at, start, end)?;
+    let b = expect(text, a.at, kind)?;
     expect_previous(text, b.at, start, end)
 }
 
@@ -155,14 +126,8 @@ fn own_values(text: &[u8], at: usize, start: usize, end: usize, kind: u32) -> St
 pub fn change_opening(text: &[u8], at: usize, start: usize, end: usize) -> Step
     ensures { parsed_of nothing result ≡ phrase text.now (change_opening (part text.now start end)) at }
 {
-    let first = expect(text, at, lexer::OPEN_ROUND);
-    let Step::Done(a) = first else {
-        return first;
-    };
-    let second = own_values(text, a.at, start, end, lexer::EQUALS);
-    let Step::Done(b) = second else {
-        return second;
-    };
+    let a = expect(text, at, lexer::OPEN_ROUND)?;
+    let b = own_values(text, a.at, start, end, lexer::EQUALS)?;
     two_signs(text, b.at, lexer::CLOSE_ROUND, lexer::ARROW)
 }
 
@@ -170,22 +135,10 @@ pub fn change_opening(text: &[u8], at: usize, start: usize, end: usize) -> Step
 pub fn no_change_opening(text: &[u8], at: usize, start: usize, end: usize) -> Step
     ensures { parsed_of nothing result ≡ phrase text.now (no_change_opening (part text.now start end)) at }
 {
-    let first = formula_closing(text, at);
-    let Step::Done(a) = first else {
-        return first;
-    };
-    let second = expect_name(text, a.at, start, end);
-    let Step::Done(b) = second else {
-        return second;
-    };
-    let third = rule_opening(text, b.at);
-    let Step::Done(c) = third else {
-        return third;
-    };
-    let fourth = own_values(text, c.at, start, end, lexer::EQUALS);
-    let Step::Done(d) = fourth else {
-        return fourth;
-    };
+    let a = formula_closing(text, at)?;
+    let b = expect_name(text, a.at, start, end)?;
+    let c = rule_opening(text, b.at)?;
+    let d = own_values(text, c.at, start, end, lexer::EQUALS)?;
     three_signs(text, d.at, lexer::ARROW, lexer::TILDE, lexer::OPEN_ROUND)
 }
 
@@ -194,10 +147,7 @@ fn turned_value(text: &[u8], at: usize, start: usize, end: usize, kind: u32) -> 
     requires { kind ≤ last_kind }
     ensures { parsed_of nothing result ≡ phrase text.now (turned_value (kind_of kind) (part text.now start end)) at }
 {
-    let first = own_values(text, at, start, end, kind);
-    let Step::Done(a) = first else {
-        return first;
-    };
+    let a = own_values(text, at, start, end, kind)?;
     expect(text, a.at, lexer::ARROW)
 }
 
@@ -206,10 +156,7 @@ pub fn turned_opening(text: &[u8], at: usize, start: usize, end: usize, kind: u3
     requires { kind ≤ last_kind }
     ensures { parsed_of nothing result ≡ phrase text.now (turned_opening (kind_of kind) (part text.now start end)) at }
 {
-    let first = rule_opening(text, at);
-    let Step::Done(a) = first else {
-        return first;
-    };
+    let a = rule_opening(text, at)?;
     turned_value(text, a.at, start, end, kind)
 }
 
@@ -217,18 +164,9 @@ pub fn turned_opening(text: &[u8], at: usize, start: usize, end: usize, kind: u3
 pub fn falling_opening(text: &[u8], at: usize, start: usize, end: usize) -> Step
     ensures { parsed_of nothing result ≡ phrase text.now (falling_opening (part text.now start end)) at }
 {
-    let first = formula_closing(text, at);
-    let Step::Done(a) = first else {
-        return first;
-    };
-    let second = expect_name(text, a.at, start, end);
-    let Step::Done(b) = second else {
-        return second;
-    };
-    let third = expect(text, b.at, lexer::MINUS);
-    let Step::Done(c) = third else {
-        return third;
-    };
+    let a = formula_closing(text, at)?;
+    let b = expect_name(text, a.at, start, end)?;
+    let c = expect(text, b.at, lexer::MINUS)?;
     turned_opening(text, c.at, start, end, lexer::LESS)
 }
 
@@ -236,10 +174,7 @@ pub fn falling_opening(text: &[u8], at: usize, start: usize, end: usize) -> Step
 pub fn watch_opening(text: &[u8], at: usize) -> Step
     ensures { parsed_of nothing result ≡ phrase text.now watch_opening at }
 {
-    let colon = expect(text, at, lexer::COLON);
-    let Step::Done(a) = colon else {
-        return colon;
-    };
+    let a = expect(text, at, lexer::COLON)?;
     three_signs(
         text,
         a.at,
@@ -253,9 +188,6 @@ pub fn watch_opening(text: &[u8], at: usize) -> Step
 pub fn later_opening(text: &[u8], at: usize) -> Step
     ensures { parsed_of nothing result ≡ phrase text.now later_opening at }
 {
-    let first = expect(text, at, lexer::AFTER);
-    let Step::Done(a) = first else {
-        return first;
-    };
+    let a = expect(text, at, lexer::AFTER)?;
     two_signs(text, a.at, lexer::OPEN_ROUND, lexer::OPEN_SQUARE)
 }

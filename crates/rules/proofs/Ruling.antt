@@ -27,8 +27,11 @@ use Rattle.expressions.specs.Inner.Steps.{Room, looked_ahead}
 use Rattle.expressions.proofs.Steps.{refused_now}
 use Rattle.expressions.proofs.Scopes.{few_names, names_counted, as_long, scope_ruled}
 use Rattle.lexer.specs.declared.Place.{Place}
-use Rattle.lexer.specs.declared.Step.{Step}
-use Rattle.lexer.specs.declared.Step.TheVariants.{Done, Refused}
+use Rattle.lexer.specs.Results.{Step}
+use Rattle.std.specs.Prelude.{Ok, Err}
+use Rattle.limits.specs.declared.Refusal.{Refusal}
+use Rattle.limits.specs.declared.Refusal.TheVariants.{NoToken}
+use Rattle.limits.specs.Refusals.{number_of, place_of}
 use Rattle.phrases.specs.Inner.Steps.{number_told, Writes}
 use Rattle.phrases.proofs.Writing.{Got, writes, refuses}
 use Rattle.cases.proofs.Ways.{then_bytes}
@@ -104,7 +107,7 @@ ruling_first ts text starts ends count known at to out r = record {
 
 -- the place behind the rules, with the token there
 abbrev pub behind_at : ℕ → ℕ → ℕ → ℕ → ℕ → ℕ → Step
-behind_at a k s n t known = Done (record { at = a; kind = k; start = s; end = n; to = t; number = known; value = pos 0 })
+behind_at a k s n t known = Ok (record { at = a; kind = k; start = s; end = n; to = t; number = known; value = pos 0 })
 
 module _ {ts : List Timer} {text starts ends : List ℕ} {count known₀ at to : ℕ} {out₀ out : List ℕ} {known a t : ℕ} (x : Ruling ts text starts ends count known₀ at to out₀ out known a t) (d : Declared starts ends (naming count known)) where
   abbrev sc : Scope
@@ -119,8 +122,8 @@ module _ {ts : List Timer} {text starts ends : List ℕ} {count known₀ at to :
   come : rules_from 65 ts (scope_of text starts ends (naming count known₀)) [] at ≡ rules_from (suc (64 - done)) ts sc x.rules a
   come = let e : 65 - done ≡ suc (64 - done) = omega (arith, x.fuel, d.few) in x.same ∙ ap (λ (f : ℕ). rules_from f ts sc x.rules a) e
 
-  pub ruling_fault : {out' : List ℕ} {r : Step} {k q : ℕ} → r ≡ Refused k q → (token_at text a ≡ fault q) × (k ≡ no_token) → Answer out' r
-  ruling_fault {q = q} g e = refuses (g ∙ ap (λ (y : ℕ). Refused y q) e.1) (refused_now (come ∙ rules_fault (64 - done) ts sc x.rules a e.0)).looked
+  pub ruling_fault : {out' : List ℕ} {r : Step} {e : Refusal} → r ≡ Err e → (token_at text a ≡ fault (place_of e)) × (e ≡ NoToken (place_of e)) → Answer out' r
+  ruling_fault {q = q} g e = refuses (g ∙ ap (λ (y : ℕ). Err e) e.1) (refused_now (come ∙ rules_fault (64 - done) ts sc x.rules a e.0)).looked
 
   module _ {k s n : ℕ} (f : Found text a k s n) where
     -- no rule follows
@@ -138,7 +141,7 @@ module _ {ts : List Timer} {text starts ends : List ℕ} {count known₀ at to :
     ruling_room = record { short = x.room.short; within = f.lies.within x.room.within; room = omega (arith, x.room.room, f.lies.after, f.lies.ordered) }
 
     module _ (i : is (kind_of k) name ≡ true) where
-      pub ruling_refused : {out' : List ℕ} {r : Step} {l q : ℕ} → r ≡ Refused l q → rule_at ts sc s n ≡ refused l q → Answer out' r
+      pub ruling_refused : {out' : List ℕ} {r : Step} {e : Refusal} → r ≡ Err e → rule_at ts sc s n ≡ refused (number_of e) (place_of e) → Answer out' r
       ruling_refused g e = refuses g (refused_now (come ∙ rules_refused (64 - done) ts sc x.rules a f.read i e)).looked
 
       module _ {out' : List ℕ} {o : Place} (g : Got code_of_rule number_told target (rule_at ts sc s n) t out out' o) where

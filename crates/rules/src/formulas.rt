@@ -31,18 +31,9 @@ fn function(
     requires id_lt_name_limit { w.id < name_limit }
     ensures { Writes code_of_rule number_told target (function_at (scope_of text.now starts.now ends.now names) (part text.now w.start w.end) w.id at) to out.old out.new result }
 {
-    let opened = phrases::value_opening(text, at, w.start, w.end);
-    let Step::Done(a) = opened else {
-        return opened;
-    };
-    let value = expressions::whole_expression(text, starts, ends, names, a.at, out, to);
-    let Step::Done(behind) = value else {
-        return value;
-    };
-    let closed = phrases::function_closing(text, behind.at);
-    let Step::Done(b) = closed else {
-        return closed;
-    };
+    let a = phrases::value_opening(text, at, w.start, w.end)?;
+    let behind = expressions::whole_expression(text, starts, ends, names, a.at, out, to)?;
+    let b = phrases::function_closing(text, behind.at)?;
     let t = bytecode::put_instruction(out, behind.to, opcode::LET, w.id as u64);
     lexer::reached(b.at, t, w.id)
 }
@@ -67,11 +58,8 @@ fn change(
     requires named { Named (scope_of text.now starts.now ends.now names).names }
     ensures { Writes code_of_rule number_told target (change_at (scope_of text.now starts.now ends.now names) (part text.now w.start w.end) w.id at) to out.old out.new result }
 {
-    let opened = phrases::change_opening(text, at, w.start, w.end);
-    let Step::Done(a) = opened else {
-        return opened;
-    };
-    let listed = cases::cases(
+    let a = phrases::change_opening(text, at, w.start, w.end)?;
+    let b = cases::cases(
         text,
         starts,
         ends,
@@ -84,22 +72,10 @@ fn change(
         a.at,
         out,
         to,
-    );
-    let Step::Done(b) = listed else {
-        return listed;
-    };
-    let next = phrases::no_change_opening(text, b.at, w.start, w.end);
-    let Step::Done(d) = next else {
-        return next;
-    };
-    let agreed = cases::agreeing_list(text, starts, ends, names, from, upto, b.number, d.at);
-    let Step::Done(e) = agreed else {
-        return agreed;
-    };
-    let closed = phrases::formula_closing(text, e.at);
-    let Step::Done(f) = closed else {
-        return closed;
-    };
+    )?;
+    let d = phrases::no_change_opening(text, b.at, w.start, w.end)?;
+    let e = cases::agreeing_list(text, starts, ends, names, from, upto, b.number, d.at)?;
+    let f = phrases::formula_closing(text, e.at)?;
     let t = bytecode::put_instruction(out, b.to, opcode::SETTLE, w.id as u64);
     lexer::reached(f.at, t, w.id)
 }
@@ -123,11 +99,8 @@ fn pair(
     requires span_room { SpanRoom from.old upto.old }
     ensures { Writes code_of_rule number_told target (pair_at (scope_of text.now starts.now ends.now names) (part text.now w.start w.end) w.id at) to out.old out.new result }
 {
-    let opened = phrases::turned_opening(text, at, w.start, w.end, lexer::GREATER);
-    let Step::Done(a) = opened else {
-        return opened;
-    };
-    let risen = cases::cases(
+    let a = phrases::turned_opening(text, at, w.start, w.end, lexer::GREATER)?;
+    let b = cases::cases(
         text,
         starts,
         ends,
@@ -140,16 +113,10 @@ fn pair(
         a.at,
         out,
         to,
-    );
-    let Step::Done(b) = risen else {
-        return risen;
-    };
-    let next = phrases::falling_opening(text, b.at, w.start, w.end);
-    let Step::Done(d) = next else {
-        return next;
-    };
+    )?;
+    let d = phrases::falling_opening(text, b.at, w.start, w.end)?;
     let left = limits::CASE_LIMIT - b.number;
-    let fallen = cases::cases(
+    let g = cases::cases(
         text,
         starts,
         ends,
@@ -162,14 +129,8 @@ fn pair(
         d.at,
         out,
         b.to,
-    );
-    let Step::Done(g) = fallen else {
-        return fallen;
-    };
-    let closed = phrases::formula_closing(text, g.at);
-    let Step::Done(f) = closed else {
-        return closed;
-    };
+    )?;
+    let f = phrases::formula_closing(text, g.at)?;
     let t = bytecode::put_instruction(out, g.to, opcode::SETTLE, w.id as u64);
     lexer::reached(f.at, t, w.id)
 }
@@ -194,14 +155,8 @@ fn formula(
     requires named { Named (scope_of text.now starts.now ends.now names).names }
     ensures { Writes code_of_rule number_told target (formula_at (scope_of text.now starts.now ends.now names) (part text.now w.start w.end) w.id at) to out.old out.new result }
 {
-    let opened = phrases::rule_opening(text, at);
-    let Step::Done(a) = opened else {
-        return opened;
-    };
-    let read = lexer::token_at(text, a.at);
-    let Step::Done(token) = read else {
-        return read;
-    };
+    let a = phrases::rule_opening(text, at)?;
+    let token = lexer::token_at(text, a.at)?;
     if token.kind == lexer::TILDE {
         return change(text, starts, ends, names, w, from, upto, token.end, out, to);
     }
@@ -228,10 +183,7 @@ pub fn formulas(
     requires named { Named (scope_of text.now starts.now ends.now names).names }
     ensures { Writes code_of_rule number_told target (formulasAt (scope_of text.now starts.now ends.now names) (part text.now w.start w.end) w.id at) to out.old out.new result }
 {
-    let read = lexer::token_at(text, at);
-    let Step::Done(token) = read else {
-        return read;
-    };
+    let token = lexer::token_at(text, at)?;
     if token.kind == lexer::PLUS {
         return pair(text, starts, ends, names, w, from, upto, token.end, out, to);
     }

@@ -16,7 +16,8 @@ ghost use Rattle.rules.specs.Inner.Timers.{timers_in, TimersFrom, TimerTables};
 
 use cases::Variable;
 use expressions::scope::Names;
-use lexer::{Found, Place, Step};
+use lexer::{Place, Step};
+use limits::Refusal;
 
 pub mod formulas;
 pub mod timers;
@@ -42,7 +43,7 @@ fn rule(
     ensures { (ts : List Timer) → TimersFrom first names.count ts → Writes code_of_rule number_told target (rule_at ts (scope_of text.now starts.now ends.now names) start end) to out.old out.new result }
 {
     if lexer::is_over_long(start, end) {
-        return Step::Refused(limits::TOO_MANY, start);
+        return Err(Refusal::TooMany(start));
     }
     let found = lexer::find(
         text,
@@ -51,14 +52,14 @@ fn rule(
         names.count,
         lexer::name(text, start, end),
     );
-    let Found::At(id) = found else {
-        return Step::Refused(limits::WRONG_NAME, start);
+    let Some(id) = found else {
+        return Err(Refusal::WrongName(start));
     };
     if first <= id {
-        return Step::Refused(limits::WRONG_RULE, start);
+        return Err(Refusal::WrongRule(start));
     }
     if expressions::scope::is_known(names, id) {
-        return Step::Refused(limits::WRONG_RULE, start);
+        return Err(Refusal::WrongRule(start));
     }
     formulas::formulas(
         text,
@@ -80,12 +81,12 @@ pub fn finish(kind: u32, start: usize, end: usize, names: Names, t: usize, done:
     ensures { result ≡ end_of kind start end names t done }
 {
     if kind != lexer::END {
-        return Step::Refused(limits::NOT_ALLOWED, start);
+        return Err(Refusal::NotAllowed(start));
     }
     if expressions::scope::all_known(names) {
         return lexer::reached(end, t, done);
     }
-    Step::Refused(limits::WRONG_RULE, start)
+    Err(Refusal::WrongRule(start))
 }
 
 // Rules up to the first token that is no name, which is told with the names then known, as bits.
@@ -115,12 +116,9 @@ fn rules_in(
     let mut a = at;
     let mut t = to;
     loop {
-        let read = lexer::token_at(text, a);
-        let Step::Done(token) = read else {
-            return read;
-        };
+        let token = lexer::token_at(text, a)?;
         if token.kind != lexer::NAME {
-            return Step::Done(Place {
+            return Ok(Place {
                 at: a,
                 kind: token.kind,
                 value: 0,
@@ -143,7 +141,7 @@ fn rules_in(
             out,
             t,
         );
-        let Step::Done(b) = one else {
+        let Ok(b) = one else {
             return one;
         };
         let more = expressions::scope::ruled(Names { count, known }, b.number);

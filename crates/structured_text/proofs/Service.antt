@@ -16,8 +16,9 @@ use Rattle.lexer.specs.Lexer.{token_at}
 use Rattle.lexer.specs.Bytes.{part}
 use Rattle.lexer.specs.Names.{table_names, Table}
 use Rattle.lexer.specs.declared.Place.{Place}
-use Rattle.lexer.specs.declared.Step.{Step}
-use Rattle.lexer.specs.declared.Step.TheVariants.{Done, Refused}
+use Rattle.lexer.specs.Results.{Step}
+use Rattle.std.specs.Prelude.{Ok, Err}
+use Rattle.limits.specs.declared.Refusal.{Refusal}
 use Rattle.lexer.proofs.Laws.{cond_prop, Moved, token_moved}
 use Rattle.semantics.specs.Program.{Name, Program, Timer}
 use Rattle.bytecode.specs.Instructions.{encode_all}
@@ -111,10 +112,10 @@ module _ (text buffer : List ℕ) where
 -- ---- an accepted text
 
 module _ (text before after starts ends : List ℕ) {r : Step} (short : length text ≤ text_limit) (d : Descends text (program text) before after starts ends r) where
-  pub fault_passed : (k x : ℕ) (buffer : List ℕ) → r ≡ Refused k x → Served text buffer (W.Refused k x) buffer
+  pub fault_passed : (e : Refusal) (buffer : List ℕ) → r ≡ Err e → Served text buffer (W.Refused k x) buffer
   fault_passed k x buffer e = text_refused text buffer k x (short_parse text short ∙ refused_part d.writes e)
 
-  pub compiled : (x : Place) → 3 * length text + 4 ≤ 2 * length before → r ≡ Done x → name_limit ≤ length starts → name_limit ≤ length ends → Compiled text starts ends x.end (take x.to after)
+  pub compiled : (x : Place) → 3 * length text + 4 ≤ 2 * length before → r ≡ Ok x → name_limit ≤ length starts → name_limit ≤ length ends → Compiled text starts ends x.end (take x.to after)
   unfolding program_of
   compiled x h e ls le =
       let m = image_made text before after starts ends short d x h e in
@@ -128,7 +129,7 @@ module _ (text before after starts ends : List ℕ) {r : Step} (short : length t
         table = record { in_starts = omega arith; in_ends = omega arith };
       }
 
-  pub image_room_lem : (x : Place) → 3 * length text + 4 ≤ 2 * length before → r ≡ Done x → x.to ≤ length after
+  pub image_room_lem : (x : Place) → 3 * length text + 4 ≤ 2 * length before → r ≡ Ok x → x.to ≤ length after
   image_room_lem x h e = (image_made text before after starts ends short d x h e).room
 
 -- ---- its header

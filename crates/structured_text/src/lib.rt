@@ -162,7 +162,7 @@ fn write_in(text: &[u8], out: &mut [u8], scratch: &mut [u8], mirror: &mut [u8]) 
     let mut values = [0i32; limits::NAME_LIMIT];
     let read = translate::descend(text, &mut starts, &mut ends, scratch);
     match read {
-        Step::Done(end) => {
+        Ok(end) => {
             let size = end.to;
             write_image(
                 text,

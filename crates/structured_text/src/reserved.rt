@@ -89,7 +89,7 @@ pub fn reserved_place(text: &[u8]) -> usize
     let mut named = false;
     loop {
         let read = lexer::token_at(text, at);
-        let Step::Done(token) = read else {
+        let Ok(token) = read else {
             return 0;
         };
         if token.kind == lexer::END {

@@ -31,8 +31,10 @@ use Rattle.rules.specs.Inner.Timers.{timers_in}
 use Rattle.expressions.proofs.Steps.{Refuses, done_place}
 use Rattle.cases.proofs.Parts.{behind_refused}
 use Rattle.lexer.specs.declared.Place.{Place}
-use Rattle.lexer.specs.declared.Step.{Step}
-use Rattle.lexer.specs.declared.Step.TheVariants.{Done, Refused}
+use Rattle.lexer.specs.Results.{Step}
+use Rattle.std.specs.Prelude.{Ok, Err}
+use Rattle.limits.specs.declared.Refusal.{Refusal}
+use Rattle.limits.specs.Refusals.{number_of, place_of}
 use Rattle.grammar.specs.Expressions.{Scope}
 use Rattle.grammar.proofs.Combine.{apart, same_value}
 use Rattle.grammar.proofs.Standing.{normally, spells_in}
@@ -112,17 +114,17 @@ rules_in text d a y b few e =
 -- ---- the answer and the bytes of the whole
 
 module _ (text before last starts ends : List ℕ) {r : Step} where
-  descends_refused : (k p : ℕ) → r ≡ Refused k p → program text ≡ refused k p → Descends text (program text) before last starts ends r
+  descends_refused : (e : Refusal) → r ≡ Err e → program text ≡ refused (number_of e) (place_of e) → Descends text (program text) before last starts ends r
   descends_refused k p d e = record { writes = refuses d e; named = λ q n h. never q n k p (sym h ∙ e); watched = λ q n x h i. never q n k p (sym h ∙ e); timed = λ q n x h i. never q n k p (sym h ∙ e) }
 
-  pub no_heading : (k p : ℕ) → r ≡ Refused k p → heading_of text ≡ refused k p → Descends text (program text) before last starts ends r
+  pub no_heading : (e : Refusal) → r ≡ Err e → heading_of text ≡ refused (number_of e) (place_of e) → Descends text (program text) before last starts ends r
   no_heading k p d e = descends_refused k p d (program_heading text ∙ rw e)
 
   module _ (x : Declarations) (a : ℕ) (e : heading_of text ≡ accepted x a) where
-    pub no_rules : (k p : ℕ) → r ≡ Refused k p → Refuses text (rules_from 65 x.timers (scope_after text x) [] a) k p → Descends text (program text) before last starts ends r
+    pub no_rules : (e : Refusal) → r ≡ Err e → Refuses text (rules_from 65 x.timers (scope_after text x) [] a) (number_of e) (place_of e) → Descends text (program text) before last starts ends r
     no_rules k p d f = descends_refused k p d (program_heading text ∙ rw e (behind_refused text _ (closed_fault text x) (rules_from 65 x.timers (scope_after text x) [] a) f))
 
-    pub no_tail : (y : Ruled) (b k p : ℕ) → rules_from 65 x.timers (scope_after text x) [] a ≡ accepted y b → r ≡ Refused k p → tail_from (scope_of_watches text x) y.known b ≡ refused k p → Descends text (program text) before last starts ends r
+    pub no_tail : (y : Ruled) (b k p : ℕ) → rules_from 65 x.timers (scope_after text x) [] a ≡ accepted y b → r ≡ Err e → tail_from (scope_of_watches text x) y.known b ≡ refused (number_of e) (place_of e) → Descends text (program text) before last starts ends r
     no_tail y b k p f d g = descends_refused k p d (program_heading text ∙ rw (e, f, closed_tail text x y b, g))
 
 -- the bytes of an image whose counts have one byte each
@@ -175,7 +177,7 @@ module _ (text before mid last starts ends watched limits : List ℕ) (a t c m v
       let l : length (image whole) ≡ 2 + (length (header x.read.names) + length (bytes_r x.read.timers rules)) = ap length bytes ∙ simp length-append (omega arith) in
       omega (arith, eu, x.ended)
 
-  pub descends_whole : {r : Step} {z : Place} → r ≡ Done z → z.at ≡ l → z.to ≡ u → z.start ≡ b → z.number ≡ length ws → z.end ≡ m - v₀ → Descends text (program text) before (set (set last 0 c) 1 (m - c)) starts ends r
+  pub descends_whole : {r : Step} {z : Place} → r ≡ Ok z → z.at ≡ l → z.to ≡ u → z.start ≡ b → z.number ≡ length ws → z.end ≡ m - v₀ → Descends text (program text) before (set (set last 0 c) 1 (m - c)) starts ends r
   descends_whole {r} {z} d ea et es en eo = record {
     writes = writes d (record { tree = whole; is = is_whole ∙ ap (accepted whole) (sym ea); ended = omega (arith, size); tells_it = refl; wrote = all_stored });
     named = λ q n h. subst (λ (p : Program). TableHolds text starts ends (length p.names) p.names) (same_value (sym is_whole ∙ h)) (subst (λ (k : ℕ). TableHolds text starts ends k x.read.names) x.named x.held);

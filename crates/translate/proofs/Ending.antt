@@ -11,7 +11,7 @@ use Rattle.limits.specs.Limits.{watch_limit, not_allowed, wrong_rule}
 use Rattle.arith.specs.Inner.Flags.{flags_of}
 use Rattle.lexer.specs.Token.{ending, kind_number}
 use Rattle.lexer.specs.declared.Place.{Place}
-use Rattle.lexer.specs.declared.Step.{Step}
+use Rattle.lexer.specs.Results.{Step}
 use Rattle.lexer.proofs.Laws.{cond_prop}
 use Rattle.semantics.specs.Program.{Watch, all_true, free}
 use Rattle.grammar.specs.Parsed.{accepted, refused}

@@ -21,8 +21,10 @@ use Rattle.grammar.proofs.Accepted.{parse_translatable, parse_few, parse_growth,
 use Rattle.grammar.proofs.PlacesText.{Placed, parse_limited}
 use Rattle.grammar.proofs.ConverseText.{short_parse}
 use Rattle.lexer.specs.declared.Place.{Place}
-use Rattle.lexer.specs.declared.Step.{Step}
-use Rattle.lexer.specs.declared.Step.TheVariants.{Done, Refused}
+use Rattle.lexer.specs.Results.{Step}
+use Rattle.std.specs.Prelude.{Ok, Err}
+use Rattle.limits.specs.declared.Refusal.{Refusal}
+use Rattle.limits.specs.Refusals.{number_of, place_of}
 use Rattle.phrases.proofs.Writing.{got, refused_part}
 use Rattle.translate.specs.declared.Analysis.{Analysis}
 use Rattle.translate.specs.declared.Analysis.TheVariants as N
@@ -45,10 +47,10 @@ two_counts : (q : Program) → q.inputs ≤ length q.names → length q.names �
 two_counts q h i = rw (image_bytes q (omega arith) (omega arith)) (sets_past (q.inputs ∷ (length q.names - q.inputs) ∷ []) 2 (header q.names ++ bytes_r q.timers q.rules) (omega arith))
 
 module _ (text last starts ends : List ℕ) {r : Step} (h : length text ≤ text_limit) (d : Descends text (program text) (0 ∷ 0 ∷ []) last starts ends r) where
-  pub analyses_refused : (k x : ℕ) → r ≡ Refused k x → parse text ≡ refused k x
+  pub analyses_refused : (e : Refusal) → r ≡ Err e → parse text ≡ refused (number_of e) (place_of e)
   analyses_refused k x e = short_parse text h ∙ refused_part d.writes e
 
-  module _ (x : Place) (e : r ≡ Done x) {i v : ℕ} (ei : i ≡ get_or last 0 0) (ev : v ≡ get_or last 1 0) (hs : name_limit ≤ length starts) (he : name_limit ≤ length ends) where
+  module _ (x : Place) (e : r ≡ Ok x) {i v : ℕ} (ei : i ≡ get_or last 0 0) (ev : v ≡ get_or last 1 0) (hs : name_limit ≤ length starts) (he : name_limit ≤ length ends) where
     abbrev read : Program
     read = (got d.writes e).tree
 
@@ -170,10 +172,10 @@ pub record Made (text scratch : List ℕ) (size : ℕ) : Type 0 where
   pub there : take size scratch ≡ image read
 
 module _ (text before after starts ends : List ℕ) {r : Step} (short : length text ≤ text_limit) (d : Descends text (program text) before after starts ends r) where
-  pub fault_passed : (k x : ℕ) (buffer : List ℕ) → r ≡ Refused k x → (after_translation (T.Refused k x) buffer ≡ translation_of text buffer) × TranslatedWithin (T.Refused k x)
+  pub fault_passed : (e : Refusal) (buffer : List ℕ) → r ≡ Err e → (after_translation (T.Refused k x) buffer ≡ translation_of text buffer) × TranslatedWithin (T.Refused k x)
   fault_passed k x buffer e = bounded text buffer (T.Refused k x) buffer (translation_refused text buffer k x (short_parse text short ∙ refused_part d.writes e))
 
-  pub image_made : (x : Place) → 3 * length text + 4 ≤ 2 * length before → r ≡ Done x → Made text after x.to
+  pub image_made : (x : Place) → 3 * length text + 4 ≤ 2 * length before → r ≡ Ok x → Made text after x.to
   image_made x h e =
       let g = got d.writes e in
       let p : parse text ≡ accepted g.tree x.at = short_parse text short ∙ g.is in

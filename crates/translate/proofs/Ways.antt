@@ -23,8 +23,10 @@ use Rattle.grammar.proofs.Size.{Pays, declarations_pay}
 use Rattle.grammar.proofs.SizeText.{timed_bytes, timers_pay}
 use Rattle.grammar.proofs.DerivedTimers.{TimersReads, timers_derive}
 use Rattle.lexer.specs.declared.Place.{Place}
-use Rattle.lexer.specs.declared.Step.{Step}
-use Rattle.lexer.specs.declared.Step.TheVariants.{Done, Refused}
+use Rattle.lexer.specs.Results.{Step}
+use Rattle.std.specs.Prelude.{Ok, Err}
+use Rattle.limits.specs.declared.Refusal.{Refusal}
+use Rattle.limits.specs.Refusals.{number_of, place_of}
 use Rattle.phrases.proofs.Writing.{got, refused_part}
 use Rattle.rules.specs.Inner.Timers.{table_timers}
 use Rattle.declarations.specs.Inner.Timers.{TimersStand, TimersHeld, timers_header, DeclaresTimers}
@@ -190,10 +192,10 @@ module _ (text before mid after e0 s1 e1 s2 e2 : List ℕ) (a t c b u m : ℕ) (
     same_parse : timers_from 65 text c m (untimed y.all) b ≡ timers_from 65 text (length x.all) (length y.all) (untimed y.all) b
     same_parse = rw (x.counted, y.counted)
 
-    pub heading_refused : {k q : ℕ} → r ≡ Refused k q → heading_of text ≡ refused k q
+    pub heading_refused : {e : Refusal} → r ≡ Err e → heading_of text ≡ refused (number_of e) (place_of e)
     heading_refused {k} {q} g = timers_refused text x.all a x.read y.all b y.read k q (sym same_parse ∙ refused_part d.writes g)
 
-    pub heading_read : {p : Place} → r ≡ Done p → HeadingRead text before last s3 e3 watched limits p.at p.to c p.number m
+    pub heading_read : {p : Place} → r ≡ Ok p → HeadingRead text before last s3 e3 watched limits p.at p.to c p.number m
     unfolding timers_header
     heading_read {p} g =
         let z = got d.writes g in
@@ -220,13 +222,13 @@ module _ (text before mid after e0 s1 e1 s2 e2 : List ℕ) (a t c b u m : ℕ) (
 
 -- ---- the answer
 
-pub refused_heading : (text before after' starts ends watched limits : List ℕ) {r : Step} {k q : ℕ} → r ≡ Refused k q → heading_of text ≡ refused k q → ReadsHeading text before after' starts ends watched limits r
+pub refused_heading : (text before after' starts ends watched limits : List ℕ) {r : Step} {e : Refusal} → r ≡ Err e → heading_of text ≡ refused (number_of e) (place_of e) → ReadsHeading text before after' starts ends watched limits r
 refused_heading text before after' starts ends watched limits {k = k} {q = q} g e = record { refuses = λ l p h. e ∙ passed (sym g ∙ h); reads = λ x h. step_refused k q x (sym g ∙ h) }
   where
-    passed : {l p : ℕ} → Refused k q ≡ Refused l p → ◌≡◌ {A = Parsed Declarations} (refused k q) (refused l p)
+    passed : {e : Refusal} → Err e ≡ Err e → ◌≡◌ {A = Parsed Declarations} (refused (number_of e) (place_of e)) (refused (number_of e) (place_of e))
     passed h = cc
 
-pub done_heading : (text before after' starts ends watched limits : List ℕ) {r : Step} {x : Place} → r ≡ Done x → HeadingRead text before after' starts ends watched limits x.at x.to x.start x.number x.end → ReadsHeading text before after' starts ends watched limits r
+pub done_heading : (text before after' starts ends watched limits : List ℕ) {r : Step} {x : Place} → r ≡ Ok x → HeadingRead text before after' starts ends watched limits x.at x.to x.start x.number x.end → ReadsHeading text before after' starts ends watched limits r
 done_heading text before after' starts ends watched limits {x = x} g d = record {
   refuses = λ k q h. step_refused k q x (sym h ∙ g);
   reads = λ y h. subst (λ (z : Place). HeadingRead text before after' starts ends watched limits z.at z.to z.start z.number z.end) (done_place (sym g ∙ h)) d;

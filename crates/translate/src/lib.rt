@@ -43,10 +43,7 @@ fn tail(text: &[u8], starts: &[usize], ends: &[usize], count: usize, behind: Pla
     ensures { Writes no_code number_told length (tail_from (free_scope text.now starts.now ends.now count) (flags_of count behind.number) behind.at) behind.to [] [] result }
 {
     let free = expressions::scope::first_names(count, count);
-    let read = watches::watches(text, starts, ends, free, behind);
-    let Step::Done(last) = read else {
-        return read;
-    };
+    let last = watches::watches(text, starts, ends, free, behind)?;
     let names = Names {
         count,
         known: behind.number as u64,
@@ -76,11 +73,8 @@ fn heading(
     requires timer_room { TimerRoom watched.old limits.old }
     ensures { ReadsHeading text.now out.old out.new starts.new ends.new watched.new limits.new result }
 {
-    let first = declarations::declarations(text, 0, lexer::INPUT, starts, ends, 0, out, 2);
-    let Step::Done(inputs) = first else {
-        return first;
-    };
-    let second = declarations::declarations(
+    let inputs = declarations::declarations(text, 0, lexer::INPUT, starts, ends, 0, out, 2)?;
+    let variables = declarations::declarations(
         text,
         inputs.at,
         lexer::VAR,
@@ -89,11 +83,8 @@ fn heading(
         inputs.number,
         out,
         inputs.to,
-    );
-    let Step::Done(variables) = second else {
-        return second;
-    };
-    let third = declarations::timers::timers(
+    )?;
+    let all = declarations::timers::timers(
         text,
         variables.at,
         starts,
@@ -104,11 +95,8 @@ fn heading(
         limits,
         out,
         variables.to,
-    );
-    let Step::Done(all) = third else {
-        return third;
-    };
-    Step::Done(Place {
+    )?;
+    Ok(Place {
         at: all.at,
         kind: lexer::UNKNOWN,
         start: inputs.number,
@@ -133,26 +121,17 @@ fn descend_in(
     requires timer_room { TimerRoom watched.old limits.old }
     ensures { Descends text.now (program text.now) out.old out.new starts.new ends.new result }
 {
-    let first = heading(text, starts, ends, watched, limits, out);
-    let Step::Done(all) = first else {
-        return first;
-    };
+    let all = heading(text, starts, ends, watched, limits, out)?;
     let names = expressions::scope::first_names(all.start, all.number);
-    let read = rules::rules(
+    let behind = rules::rules(
         text, starts, ends, names, watched, limits, all.end, all.at, out, all.to,
-    );
-    let Step::Done(behind) = read else {
-        return read;
-    };
-    let ended = tail(text, starts, ends, all.number, behind);
-    let Step::Done(mut last) = ended else {
-        return ended;
-    };
+    )?;
+    let mut last = tail(text, starts, ends, all.number, behind)?;
     leb128::put_byte(out, 0, all.start as u8);
     leb128::put_byte(out, 1, (all.number - all.start) as u8);
     last.start = behind.at;
     last.end = all.number - all.end;
-    Step::Done(last)
+    Ok(last)
 }
 
 // Told are where the rules end, how many timers and how many watches there are.
@@ -187,7 +166,7 @@ pub fn analyse(text: &[u8], starts: &mut [usize], ends: &mut [usize]) -> Analysi
     let inputs = count_of(counts[0]);
     let names = inputs + count_of(counts[1]);
     match read {
-        Step::Done(end) => {
+        Ok(end) => {
             Analysis::Accepted(end.to, inputs, names, end.end, end.start, end.number)
         }
         Step::Refused(number, place) => Analysis::Refused(number, place),
@@ -221,7 +200,7 @@ fn translate_in(
 {
     let read = descend(text, starts, ends, scratch);
     match read {
-        Step::Done(end) => {
+        Ok(end) => {
             let size = end.to;
             if image.len() < size {
                 return Translated::Refused(limits::BUFFER_TOO_SHORT, text.len());

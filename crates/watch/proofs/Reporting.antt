@@ -11,7 +11,7 @@ use Rattle.lexer.specs.Names.{Table}
 use Rattle.lexer.specs.Lexer.{token_at}
 use Rattle.lexer.specs.Token.{fault}
 use Rattle.lexer.specs.declared.Place.{Place}
-use Rattle.lexer.specs.declared.Step.{Step}
+use Rattle.lexer.specs.Results.{Step}
 use Rattle.semantics.specs.Program.{Watch, free}
 use Rattle.semantics.specs.Formula.{Trace}
 use Rattle.semantics.proofs.Reference.{length_known}

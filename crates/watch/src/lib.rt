@@ -99,11 +99,11 @@ fn reports(
     let mut i = 0;
     while i < count {
         let word = lexer::token_at(text, a);
-        let Step::Done(token) = word else {
+        let Ok(token) = word else {
             return;
         };
         let read = watches::watch(text, starts, ends, free, token.end, code, 0);
-        let Step::Done(b) = read else {
+        let Ok(b) = read else {
             return;
         };
         let failed = walk(code, b.number, b.to, trace, size, places, vals);

@@ -11,8 +11,11 @@ use Rattle.lexer.specs.Token.{Kind, kind_number, watch_word, is, token, fault}
 use Rattle.lexer.specs.Lexer.{token_at}
 use Rattle.lexer.specs.Results.{kind_of}
 use Rattle.lexer.specs.declared.Place.{Place}
-use Rattle.lexer.specs.declared.Step.{Step}
-use Rattle.lexer.specs.declared.Step.TheVariants.{Done, Refused}
+use Rattle.lexer.specs.Results.{Step}
+use Rattle.std.specs.Prelude.{Ok, Err}
+use Rattle.limits.specs.declared.Refusal.{Refusal}
+use Rattle.limits.specs.declared.Refusal.TheVariants.{NoToken, TooManyWatches}
+use Rattle.limits.specs.Refusals.{number_of, place_of}
 use Rattle.lexer.proofs.KindNumbers.{kind_number_lem}
 use Rattle.semantics.specs.Program.{Watch}
 use Rattle.grammar.specs.Parsed.{accepted, refused}
@@ -78,7 +81,7 @@ module _ {sc : Scope} {at a k s n count : ℕ} (x : Reading sc at a k s n count)
   abbrev Answer : Step → Type 0
   Answer r = Writes no_code watches_told watches_behind (looked_ahead sc.text (watches_from watch_limit sc [] at)) 0 [] [] r
 
-  pub reading_end : (k ≡ kind_number watch_word → ⊥) → Answer (Done (record { at = a; kind = k; start = s; end = n; to = 0; number = count; value = pos 0 }))
+  pub reading_end : (k ≡ kind_number watch_word → ⊥) → Answer (Ok (record { at = a; kind = k; start = s; end = n; to = 0; number = count; value = pos 0 }))
   unfolding looked_ahead
   reading_end i = writes refl (record {
     tree = record { part = x.done; kind = x.stands.kind; start = s; end = n };
@@ -89,7 +92,7 @@ module _ {sc : Scope} {at a k s n count : ℕ} (x : Reading sc at a k s n count)
   })
 
   module _ (i : k ≡ kind_number watch_word) where
-    pub reading_full : count ≡ watch_limit → Answer (Refused too_many_watches s)
+    pub reading_full : count ≡ watch_limit → Answer (Err (TooManyWatches s))
     reading_full z =
         let e : watch_limit - count ≡ 0 = omega arith in
         refuses refl (refused_now (x.same ∙ (ap (λ (l : ℕ). watches_from l sc x.done a) e ∙ watches_full sc x.done a x.stands.read (told x.stands watch_word i)))).looked
@@ -101,15 +104,15 @@ module _ {sc : Scope} {at a k s n count : ℕ} (x : Reading sc at a k s n count)
       some_left : watches_from (watch_limit - count) sc x.done a ≡ watches_from (suc (watch_limit - (count + 1))) sc x.done a
       some_left = let e : watch_limit - count ≡ suc (watch_limit - (count + 1)) = omega (arith, x.few) in ap (λ (l : ℕ). watches_from l sc x.done a) e
 
-      pub reading_refused : {r : Step} {l q : ℕ} → r ≡ Refused l q → watch_at sc n ≡ refused l q → Answer r
+      pub reading_refused : {r : Step} {e : Refusal} → r ≡ Err e → watch_at sc n ≡ refused (number_of e) (place_of e) → Answer r
       reading_refused d e = refuses d (refused_now (x.same ∙ (some_left ∙ watches_refused sc x.done a x.stands.read (told x.stands watch_word i) (watch_limit - (count + 1)) e))).looked
 
       module _ {w : Watch} {m : ℕ} (e : watch_at sc n ≡ accepted w m) where
         more : watches_from watch_limit sc [] at ≡ watches_from (watch_limit - (count + 1)) sc (x.done ++ (w ∷ [])) m
         more = x.same ∙ (some_left ∙ watches_more sc x.done a x.stands.read (told x.stands watch_word i) (watch_limit - (count + 1)) e)
 
-        pub reading_fault : {r : Step} {l q : ℕ} → r ≡ Refused l q → (token_at sc.text m ≡ fault q) × (l ≡ no_token) → Answer r
-        reading_fault {q = q} d f = refuses (d ∙ ap (λ (y : ℕ). Refused y q) f.1) (refused_now (more ∙ watches_fault sc (x.done ++ (w ∷ [])) m (watch_limit - (count + 1)) f.0)).looked
+        pub reading_fault : {r : Step} {e : Refusal} → r ≡ Err e → (token_at sc.text m ≡ fault (place_of e)) × (e ≡ NoToken (place_of e)) → Answer r
+        reading_fault {q = q} d f = refuses (d ∙ ap (λ (y : ℕ). Err e) f.1) (refused_now (more ∙ watches_fault sc (x.done ++ (w ∷ [])) m (watch_limit - (count + 1)) f.0)).looked
 
         pub reading_more : length sc.names ≤ 64 → {k2 s2 n2 : ℕ} → Found sc.text m k2 s2 n2 → Reading sc at m k2 s2 n2 (count + 1)
         reading_more few f = record {

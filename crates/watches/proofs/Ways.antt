@@ -9,8 +9,8 @@ use lib.ListN.{length, length-append}
 use lib.Seq.{sets}
 use Rattle.lexer.specs.Token.{Kind, arrow, is, token}
 use Rattle.lexer.specs.Lexer.{token_at}
-use Rattle.lexer.specs.declared.Step.{Step}
-use Rattle.lexer.specs.declared.Step.TheVariants.{Done, Refused}
+use Rattle.lexer.specs.Results.{Step}
+use Rattle.std.specs.Prelude.{Ok, Err}
 use Rattle.semantics.specs.Program.{Condition, Watch}
 use Rattle.grammar.specs.Parsed.{Parsed, accepted, refused, phrase, followed}
 use Rattle.grammar.specs.Expressions.{Scope}
@@ -92,8 +92,8 @@ module _ (sc : Scope) (c : Condition) (n : ℕ) {to t : ℕ} {before mid after :
   both_written {r} x = go r refl
     where
       go : (s : Step) → r ≡ s → Writes code_of_watch number_told (end_of_first to) (later_at sc c n) to before after r
-      go (Refused k q) d = refuses d (refused_part x d)
-      go (Done h) d =
+      go (Err e) d = refuses d (refused_part x d)
+      go (Ok h) d =
           let g = got x d in
           let f = later_first sc c n g.tree h.at g.is in
           let l : t ≡ to + length (bytes_c g.tree.first) = ht ∙ ap (λ (y : Condition). to + length (bytes_c y)) (sym f) in

@@ -13,6 +13,7 @@ ghost use Rattle.watches.specs.Inner.Codes.{code_of_watch, code_of_later, end_of
 
 use expressions::scope::Names;
 use lexer::{Place, Step};
+use limits::Refusal;
 
 // `X([c]));` after the `->` of a watch.
 fn later(
@@ -28,18 +29,9 @@ fn later(
     requires room { Room text.now at to }
     ensures { (c : Condition) → Writes code_of_later number_told (λ w. to) (later_at (scope_of text.now starts.now ends.now names) c at) to out.old out.new result }
 {
-    let opened = phrases::later_opening(text, at);
-    let Step::Done(a) = opened else {
-        return opened;
-    };
-    let second = conditions::listed(text, starts, ends, names, a.at, out, to);
-    let Step::Done(behind) = second else {
-        return second;
-    };
-    let closed = phrases::function_closing(text, behind.at);
-    let Step::Done(b) = closed else {
-        return closed;
-    };
+    let a = phrases::later_opening(text, at)?;
+    let behind = conditions::listed(text, starts, ends, names, a.at, out, to)?;
+    let b = phrases::function_closing(text, behind.at)?;
     lexer::reached(b.at, behind.to, to)
 }
 
@@ -57,21 +49,12 @@ pub fn watch(
     requires room { Room text.now at to }
     ensures { Writes code_of_watch number_told (end_of_first to) (watch_at (scope_of text.now starts.now ends.now names) at) to out.old out.new result }
 {
-    let opened = phrases::watch_opening(text, at);
-    let Step::Done(a) = opened else {
-        return opened;
-    };
-    let first = conditions::listed(text, starts, ends, names, a.at, out, to);
-    let Step::Done(behind) = first else {
-        return first;
-    };
+    let a = phrases::watch_opening(text, at)?;
+    let behind = conditions::listed(text, starts, ends, names, a.at, out, to)?;
     if behind.kind == lexer::ARROW {
         return later(text, starts, ends, names, behind.end, out, behind.to);
     }
-    let closed = phrases::formula_closing(text, behind.at);
-    let Step::Done(b) = closed else {
-        return closed;
-    };
+    let b = phrases::formula_closing(text, behind.at)?;
     lexer::reached(b.at, behind.to, behind.to)
 }
 
@@ -90,23 +73,17 @@ pub fn watches(text: &[u8], starts: &[usize], ends: &[usize], names: Names, firs
     let mut count = 0;
     while kind == lexer::WATCH {
         if count == limits::WATCH_LIMIT {
-            return Step::Refused(limits::TOO_MANY_WATCHES, start);
+            return Err(Refusal::TooManyWatches(start));
         }
-        let one = watch(text, starts, ends, names, end, &mut nothing, 0);
-        let Step::Done(b) = one else {
-            return one;
-        };
-        let read = lexer::token_at(text, b.at);
-        let Step::Done(next) = read else {
-            return read;
-        };
+        let b = watch(text, starts, ends, names, end, &mut nothing, 0)?;
+        let next = lexer::token_at(text, b.at)?;
         at = b.at;
         kind = next.kind;
         start = next.start;
         end = next.end;
         count += 1;
     }
-    Step::Done(Place {
+    Ok(Place {
         at,
         kind,
         value: 0,

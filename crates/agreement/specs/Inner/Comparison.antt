@@ -1,7 +1,7 @@
 -- What the answers of a comparison stand for. Document 01, "Who can cause which refusal", 7. Assumes nothing.
 use Rattle.std.specs.Prelude.{ℕ, ◌≡◌, List, length}
-use Rattle.lexer.specs.declared.Step.{Step}
-use Rattle.lexer.specs.declared.Step.TheVariants.{Done, Refused}
+use Rattle.lexer.specs.Results.{Step}
+use Rattle.std.specs.Prelude.{Ok, Err}
 use Rattle.grammar.specs.Rules as R
 use Rattle.grammar.specs.Inner.Names.{TokensIn}
 use Rattle.agreement.specs.declared.Repetition.{Repetition}
@@ -9,8 +9,8 @@ use Rattle.agreement.specs.declared.Repetition.TheVariants.{Until, Other}
 
 -- `Done` is at the place after what agrees, `Refused` at the first token that is not the one wanted, or what is none.
 abbrev pub compared_of : Step → R.Compared
-compared_of (Done p) = R.agrees p.at
-compared_of (Refused k q) = R.differs q
+compared_of (Ok p) = R.agrees p.at
+compared_of (Err e) = R.differs q
 
 -- `Until` is the place after a part of tokens that stands once more, so that they agree; `Other` says nothing.
 abbrev pub RepetitionBy : List ℕ → ℕ → ℕ → ℕ → Repetition → Type 0

@@ -15,8 +15,8 @@ returns c =
 
 returns-2 : tie.Need-returns
 returns-2 c =
-    let f : SFits w32 c.in-Is.z = search rules in
-    ap (parsed_of value_told) c.valued.ensures ∙ absent_in _ _ _ (rw (same32 c.ranges.low, same32 c.ranges.high) at c.within.ensures) _ f c.in-Is.is
+    let f : SFits w32 c.in-Some.z = search rules in
+    ap (parsed_of value_told) c.valued.ensures ∙ absent_in _ _ _ (rw (same32 c.ranges.low, same32 c.ranges.high) at c.within.ensures) _ f c.in-Some.is
 
 pub absent_spec : {M : Type 1} → statement M
 absent_spec = tie.close (tie.spec (λ c κs. search rules) (λ c. search rules) (λ c. search rules) returns (λ c κs. search rules) returns-2)

@@ -24,10 +24,10 @@ returns-2 c =
 returns-3 : tie.Need-returns
 unfolding kind_number
 returns-3 c =
-    let f : SFits w32 c.in-Is.z = search rules in
+    let f : SFits w32 c.in-Some.z = search rules in
     ap (parsed_of value_told) c.valued.ensures ∙ rw (same32 f)
     (digits_in _ _ c.ranges.low c.ranges.high _ c.args.negative _ _ _ _ (kind_is _ digits_kind c.if-kind-ne-DIGITS.false) (rw c.name.ensures at c.value-value.ensures)
-    (rw (same32 c.ranges.low, same32 c.ranges.high) at c.signed.ensures) c.in-Is.is)
+    (rw (same32 c.ranges.low, same32 c.ranges.high) at c.signed.ensures) c.in-Some.is)
 
 pub digits_spec : {M : Type 1} → statement M
 digits_spec =

@@ -7,8 +7,8 @@ use Rattle.semantics.specs.Program.{Name}
 use Rattle.grammar.specs.Parsed.{accepted, and_then}
 use Rattle.grammar.specs.Declarations.{spellings, new_name, declaration, declarations}
 use Rattle.grammar.specs.Inner.Bytes.{header}
-use Rattle.lexer.specs.declared.Step.{Step}
-use Rattle.lexer.specs.declared.Step.TheVariants.{Done, Refused}
+use Rattle.lexer.specs.Results.{Step}
+use Rattle.std.specs.Prelude.{Ok, Err}
 use Rattle.phrases.specs.Inner.Steps.{parsed_of, nothing, number_told, Writes}
 use Rattle.declarations.specs.Inner.Ranges.{declared_range}
 
@@ -52,5 +52,5 @@ pub record DeclaresAll (word : Kind) (text : List ℕ) (names : List Name) (at t
 
 -- no more names than a text may declare, and no more than fifteen bytes for each
 abbrev pub FewDeclared : ℕ → Step → Type 0
-FewDeclared to (Done x) = (x.number ≤ name_limit) × (x.to ≤ to + 15 * x.number)
-FewDeclared to (Refused k p) = Unit {0}
+FewDeclared to (Ok x) = (x.number ≤ name_limit) × (x.to ≤ to + 15 * x.number)
+FewDeclared to (Err e) = Unit {0}

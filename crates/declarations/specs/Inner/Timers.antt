@@ -7,8 +7,8 @@ use Rattle.grammar.specs.Parsed.{Parsed, accepted, and_then, sign, phrase, follo
 use Rattle.grammar.specs.Timers.{WithTimers, watched_at, limit_at, timer_declaration, timers_from}
 use Rattle.grammar.specs.Inner.Bytes.{header}
 use Rattle.lexer.specs.declared.Place.{Place}
-use Rattle.lexer.specs.declared.Step.{Step}
-use Rattle.lexer.specs.declared.Step.TheVariants.{Done}
+use Rattle.lexer.specs.Results.{Step}
+use Rattle.std.specs.Prelude.{Ok}
 use Rattle.phrases.specs.Inner.Steps.{nothing, number_told, Writes}
 use Rattle.declarations.specs.Inner.Ranges.{range_bytes}
 use Rattle.declarations.specs.Inner.Tables.{TableHolds, RangesBehind}
@@ -35,7 +35,7 @@ abbrev pub timer_told : Place → ℕ × ℕ
 timer_told x = (x.number, x.start)
 
 abbrev pub timer_done : ℕ → ℕ → ℕ → Step
-timer_done at w n = Done (record { at = at; kind = 0; start = n; end = at; to = 0; number = w; value = pos 0 })
+timer_done at w n = Ok (record { at = at; kind = 0; start = n; end = at; to = 0; number = w; value = pos 0 })
 
 -- the timers from the id i on: of each w and N
 abbrev pub TimersStand : List ℕ → List ℕ → ℕ → List Timer → Type 0

@@ -9,8 +9,9 @@ use Rattle.semantics.specs.Program.{Expression}
 use Rattle.grammar.specs.Parsed.{Parsed}
 use Rattle.grammar.specs.Expressions.{Scope, primary, factor, term, expression, bracket}
 use Rattle.lexer.specs.declared.Place.{Place}
-use Rattle.lexer.specs.declared.Step.{Step}
-use Rattle.lexer.specs.declared.Step.TheVariants.{Done, Refused}
+use Rattle.lexer.specs.Results.{Step}
+use Rattle.std.specs.Prelude.{Ok, Err}
+use Rattle.limits.specs.declared.Refusal.TheVariants.{NotAllowed}
 use Rattle.expressions.specs.Inner.Steps.{step_at}
 
 -- a text alone, without names
@@ -54,13 +55,13 @@ pub record StandsAt (text : List ℕ) (h : Place) : Type 0 where
 
 -- a part with a token of the kind with the number w behind it, and the token behind that one; any other token there is refused 2
 abbrev pub closed_step : List ℕ → ℕ → Step → Step
-closed_step text w (Done h) =
+closed_step text w (Ok h) =
     let next = step_at (token_at text h.end) h.end h.to in
-    cond (eqb h.kind w) next (Refused not_allowed h.start)
-closed_step text w (Refused k q) = Refused k q
+    cond (eqb h.kind w) next (Err (NotAllowed h.start))
+closed_step text w (Err e) = Err e
 
 -- the token behind a `-`; where h is none, h
 abbrev pub behind_minus : List ℕ → ℕ → Place → Step
 behind_minus text to h =
     let next = step_at (token_at text h.end) h.end to in
-    cond (eqb h.kind (kind_number minus)) next (Done h)
+    cond (eqb h.kind (kind_number minus)) next (Ok h)

@@ -4,15 +4,16 @@ use Rattle.limits.specs.Limits.{text_limit, no_token}
 use Rattle.lexer.specs.Token.{Kind, kind_number, TokenRead, token, fault}
 use Rattle.lexer.specs.Lexer.{token_at}
 use Rattle.lexer.specs.declared.Place.{Place}
-use Rattle.lexer.specs.declared.Step.{Step}
-use Rattle.lexer.specs.declared.Step.TheVariants.{Done, Refused}
+use Rattle.lexer.specs.Results.{Step}
+use Rattle.std.specs.Prelude.{Ok, Err}
+use Rattle.limits.specs.declared.Refusal.TheVariants.{NoToken}
 use Rattle.grammar.specs.Parsed.{Parsed, accepted, and_then, on_token}
 use Rattle.phrases.specs.Inner.Steps.{Writes}
 
 -- the token read from the place n, with the bytes written up to t; what is no token is refused 1
 abbrev pub step_at : TokenRead → ℕ → ℕ → Step
-step_at (token k s m) n t = Done (record { at = n; kind = kind_number k; start = s; end = m; to = t; number = 0; value = pos 0 })
-step_at (fault q) n t = Refused no_token q
+step_at (token k s m) n t = Ok (record { at = n; kind = kind_number k; start = s; end = m; to = t; number = 0; value = pos 0 })
+step_at (fault q) n t = Err (NoToken q)
 
 -- a part and the token behind it
 pub record Followed (A : Type 0) : Type 0 where

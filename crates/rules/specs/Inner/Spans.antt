@@ -6,8 +6,9 @@ use Rattle.grammar.specs.Inner.Bytes.{bytes_r}
 use Rattle.expressions.specs.declared.scope.Names.{Names}
 use Rattle.arith.specs.Inner.Flags.{flags_of}
 use Rattle.lexer.specs.Results.{reached_at}
-use Rattle.lexer.specs.declared.Step.{Step}
-use Rattle.lexer.specs.declared.Step.TheVariants.{Refused}
+use Rattle.lexer.specs.Results.{Step}
+use Rattle.std.specs.Prelude.{Err}
+use Rattle.limits.specs.declared.Refusal.TheVariants.{NotAllowed, WrongRule}
 
 -- the code of a rule, without its timers
 abbrev pub code_of_rule : Rule → List ℕ
@@ -20,4 +21,4 @@ pub record SpanRoom (from upto : List ℕ) : Type 0 where
 
 -- what is answered where no rule follows: at the end of the text 6 if a variable has no rule, elsewhere 2
 unfoldable pub end_of : ℕ → ℕ → ℕ → Names → ℕ → ℕ → Step
-end_of kind s n names t done = cond (eqb kind 1) (cond (all_true (flags_of names.count names.known)) (reached_at n t done) (Refused wrong_rule s)) (Refused not_allowed s)
+end_of kind s n names t done = cond (eqb kind 1) (cond (all_true (flags_of names.count names.known)) (reached_at n t done) (Err (WrongRule s))) (Err (NotAllowed s))

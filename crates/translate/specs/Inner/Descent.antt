@@ -14,8 +14,10 @@ use Rattle.grammar.specs.Watches.{watches_from}
 use Rattle.grammar.specs.Parse.{end_at}
 use Rattle.grammar.specs.Inner.Bytes.{header, image}
 use Rattle.lexer.specs.declared.Place.{Place}
-use Rattle.lexer.specs.declared.Step.{Step}
-use Rattle.lexer.specs.declared.Step.TheVariants.{Done, Refused}
+use Rattle.lexer.specs.Results.{Step}
+use Rattle.std.specs.Prelude.{Ok, Err}
+use Rattle.limits.specs.declared.Refusal.{Refusal}
+use Rattle.limits.specs.Refusals.{number_of, place_of}
 use Rattle.phrases.specs.Inner.Steps.{nothing, Writes}
 use Rattle.declarations.specs.Inner.Tables.{TableHolds}
 use Rattle.rules.specs.Inner.Timers.{timers_in}
@@ -50,8 +52,8 @@ pub record HeadingRead (text before mid starts ends watched limits : List ℕ) (
 
 -- all declarations: their answer
 pub record ReadsHeading (text before after starts ends watched limits : List ℕ) (r : Step) : Type 0 where
-  pub refuses : (k q : ℕ) → r ≡ Refused k q → heading_of text ≡ refused k q
-  pub reads : (x : Place) → r ≡ Done x → HeadingRead text before after starts ends watched limits x.at x.to x.start x.number x.end
+  pub refuses : (e : Refusal) → r ≡ Err e → heading_of text ≡ refused (number_of e) (place_of e)
+  pub reads : (x : Place) → r ≡ Ok x → HeadingRead text before after starts ends watched limits x.at x.to x.start x.number x.end
 
 -- the rules' scope at their start
 abbrev pub scope_after : List ℕ → Declarations → Scope
@@ -79,8 +81,8 @@ pub record WatchesRead (text : List ℕ) (q : Program) (at : ℕ) : Type 0 where
 pub record Descends (text : List ℕ) (p : Parsed Program) (before after starts ends : List ℕ) (r : Step) : Type 0 where
   pub writes : Writes image nothing (λ q. tt) p 0 before after r
   pub named : (q : Program) (n : ℕ) → p ≡ accepted q n → TableHolds text starts ends (length q.names) q.names
-  pub watched : (q : Program) (n : ℕ) (x : Place) → p ≡ accepted q n → r ≡ Done x → (x.number ≡ length q.watches) × WatchesRead text q x.start
-  pub timed : (q : Program) (n : ℕ) (x : Place) → p ≡ accepted q n → r ≡ Done x → x.end ≡ length q.timers
+  pub watched : (q : Program) (n : ℕ) (x : Place) → p ≡ accepted q n → r ≡ Ok x → (x.number ≡ length q.watches) × WatchesRead text q x.start
+  pub timed : (q : Program) (n : ℕ) (x : Place) → p ≡ accepted q n → r ≡ Ok x → x.end ≡ length q.timers
 
 -- the watches ws stand from `at` on, and the table holds the names that they may use
 pub record WatchesStand (text starts ends : List ℕ) (names at : ℕ) (ws : List Watch) : Type 0 where

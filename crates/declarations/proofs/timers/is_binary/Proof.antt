@@ -19,24 +19,24 @@ use Rattle.declarations.proofs.timers.is_binary.Tie as tie
 highest_fits : SFits w32 highest
 highest_fits = record { sfits = omega arith }
 
-low_fits : (c : tie.In-Done) → SFits w32 c.in-Done.low.value
+low_fits : (c : tie.In-Ok) → SFits w32 c.in-Ok.low.value
 low_fits c = search rules
 
-low_is : (c : tie.In-Done) → let a = c.args in let low = c.in-Done.low in
+low_is : (c : tie.In-Ok) → let a = c.args in let low = c.in-Ok.low in
     bound_at (in_range lowest highest) a.text.now a.at ≡ accepted low.value low.at
-low_is c = sym c.bound_at-first.ensures ∙ ap (parsed_of value_told) c.in-Done.is
+low_is c = sym c.bound_at-first.ensures ∙ ap (parsed_of value_told) c.in-Ok.is
 
-dots_is : (c : tie.In-Done-between) → let a = c.args in
-    expected a.text.now (sign dots) c.in-Done.low.at ≡ accepted tt c.in-Done-between.b.at
+dots_is : (c : tie.In-Ok-between) → let a = c.args in
+    expected a.text.now (sign dots) c.in-Ok.low.at ≡ accepted tt c.in-Ok-between.b.at
 unfolding kind_of
-dots_is c = sym c.expect-between.ensures ∙ ap (parsed_of nothing) c.in-Done-between.is
+dots_is c = sym c.expect-between.ensures ∙ ap (parsed_of nothing) c.in-Ok-between.is
 
-high_fits : (c : tie.In-Done-second) → SFits w32 c.in-Done-second.high.value
+high_fits : (c : tie.In-Ok-second) → SFits w32 c.in-Ok-second.high.value
 high_fits c = search rules
 
-high_is : (c : tie.In-Done-second) → let a = c.args in let high = c.in-Done-second.high in
-    bound_at (in_range c.in-Done.low.value highest) a.text.now c.in-Done-between.b.at ≡ accepted high.value high.at
-high_is c = sym (bound_kept _ _ (low_fits c.before.before.before.before.before) highest_fits _ _ c.bound_at-second.ensures) ∙ ap (parsed_of value_told) c.in-Done-second.is
+high_is : (c : tie.In-Ok-second) → let a = c.args in let high = c.in-Ok-second.high in
+    bound_at (in_range c.in-Ok.low.value highest) a.text.now c.in-Ok-between.b.at ≡ accepted high.value high.at
+high_is c = sym (bound_kept _ _ (low_fits c.before.before.before.before.before) highest_fits _ _ c.bound_at-second.ensures) ∙ ap (parsed_of value_told) c.in-Ok-second.is
 
 returns : tie.Need-returns-in_default
 returns c = low_refused _ _ _ _ (sym c.bound_at-first.ensures ∙ ap (parsed_of value_told) c.in_default.is)

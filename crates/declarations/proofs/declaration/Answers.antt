@@ -1,0 +1,11 @@
+-- `declarations::declaration` meets its contract. Assumes nothing.
+use Rattle.declarations.proofs.Entries.{unnamed, entered}
+use borrow.Author.Rules.{rules}
+use Rattle.limits.proofs.Exits.{handed_on}
+use Rattle.declarations.proofs.declaration.Goals as goal
+
+pub returns-in_err-next : goal.returns-in_err-next
+returns-in_err-next c = rw (handed_on c.from_residual.ensures c.in_err-next.was) (unnamed _ _ _ _ _ _ _ _ _ _ c.new_name.ensures.names c.in_err-next.was)
+
+pub returns : goal.returns
+returns c = entered _ _ _ _ _ _ _ _ _ _ c.new_name.ensures.names c.in_ok-next.was c.range.ensures (c.new_name.ensures.count_lt_name_limit _ c.in_ok-next.was)

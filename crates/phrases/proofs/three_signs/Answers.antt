@@ -1,0 +1,11 @@
+-- `phrases::three_signs` meets its contract: each token takes the definition one step on. Assumes nothing.
+use borrow.Author.Rules.{rules}
+use Rattle.phrases.proofs.Laws.{stops, goes_on_lem}
+use Rattle.limits.proofs.Exits.{handed_on}
+use Rattle.phrases.proofs.three_signs.Goals as goal
+
+pub returns-in_err-a : goal.returns-in_err-a
+returns-in_err-a c = rw (handed_on c.from_residual.ensures c.in_err-a.was) (stops _ _ _ _ c.expect.ensures c.in_err-a.was)
+
+pub returns : goal.returns
+returns c = goes_on_lem _ _ _ _ c.expect.ensures c.in_ok-a.was c.two_signs.ensures
