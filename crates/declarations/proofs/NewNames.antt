@@ -62,13 +62,13 @@ module _ (text : List ℕ) (names : List Name) (at : ℕ) where
 
 -- ---- an id that was looked for
 
-pub an_id : {o : Option ℕ} {i : O.Option ℕ} → i ≡ found_id o → is_some o ≡ true → (n : ℕ) × (i ≡ some n)
-an_id {o = Some n} e f = (n, e)
-an_id {o = None} e f = absurd (false≢true f)
+pub an_id : (o : Option ℕ) {i : O.Option ℕ} → i ≡ found_id o → is_some o ≡ true → (n : ℕ) × (i ≡ some n)
+an_id (Some n) e f = (n, e)
+an_id None e f = absurd (false≢true f)
 
-pub no_id : {o : Option ℕ} {i : O.Option ℕ} → i ≡ found_id o → is_some o ≡ false → i ≡ none
-no_id {o = Some n} e f = absurd (false≢true (sym f))
-no_id {o = None} e f = e
+pub no_id : (o : Option ℕ) {i : O.Option ℕ} → i ≡ found_id o → is_some o ≡ false → i ≡ none
+no_id (Some n) e f = absurd (false≢true (sym f))
+no_id None e f = e
 
 -- ---- the answer
 

@@ -11,7 +11,7 @@ use Rattle.declarations.proofs.new_name.Goals as goal
 
 pub returns-in_err-token : goal.returns-in_err-token
 returns-in_err-token c =
-    let both = faulty_name _ _ _ _ _ _ _ _ _ c.in_err-token.was (is_fault _ _ _ (c.token_at.ensures.value, c.token_at.ensures.placed_in) _ c.in_err-token.was) in
+    let both = faulty_name _ _ _ _ _ _ _ _ c.in_err-token.was (is_fault _ _ _ (c.token_at.ensures.value, c.token_at.ensures.placed_in) _ c.in_err-token.was) in
     rw (handed_on c.from_residual.ensures c.in_err-token.was) (record { names = both.0; count_lt_name_limit = both.1 })
 
 pub returns-then-token-ne-NAME : goal.returns-then-token-ne-NAME
@@ -25,7 +25,7 @@ pub returns-then-is_some : goal.returns-then-is_some
 unfolding kind_number
 returns-then-is_some c =
     let t = is_token _ _ _ (c.token_at.ensures.value, c.token_at.ensures.placed_in) _ c.in_ok-token.was in
-    let i = an_id (sym (c.find-known.ensures ∙ ap (id_of _) c.name.ensures)) (sym c.is_some.ensures ∙ c.if-is_some.true) in
+    let i = an_id _ (sym (c.find-known.ensures ∙ ap (id_of _) c.name.ensures)) (sym c.is_some.ensures ∙ c.if-is_some.true) in
     let both = refuses_known _ _ _ _ _ _ _ _ _ _ t.0 (kind_is _ name c.if-token-ne-NAME.false) i.0 i.1 in
     record { names = both.0; count_lt_name_limit = both.1 }
 
@@ -33,7 +33,7 @@ pub returns-then-is_over_long : goal.returns-then-is_over_long
 unfolding kind_number
 returns-then-is_over_long c =
     let t = is_token _ _ _ (c.token_at.ensures.value, c.token_at.ensures.placed_in) _ c.in_ok-token.was in
-    let i = no_id (sym (c.find-known.ensures ∙ ap (id_of _) c.name.ensures)) (sym c.is_some.ensures ∙ c.if-is_some.false) in
+    let i = no_id _ (sym (c.find-known.ensures ∙ ap (id_of _) c.name.ensures)) (sym c.is_some.ensures ∙ c.if-is_some.false) in
     let both = refuses_long _ _ _ _ _ _ _ _ _ _ t.0 (kind_is _ name c.if-token-ne-NAME.false) i (sym c.is_over_long.ensures ∙ c.if-is_over_long.true) in
     record { names = both.0; count_lt_name_limit = both.1 }
 
@@ -44,7 +44,7 @@ pub returns-then-count-lt-NAME_LIMIT : goal.returns-then-count-lt-NAME_LIMIT
 unfolding kind_number
 returns-then-count-lt-NAME_LIMIT c =
     let t = is_token _ _ _ (c.token_at.ensures.value, c.token_at.ensures.placed_in) _ c.in_ok-token.was in
-    let i = no_id (sym (c.find-known.ensures ∙ ap (id_of _) c.name.ensures)) (sym c.is_some.ensures ∙ c.if-is_some.false) in
+    let i = no_id _ (sym (c.find-known.ensures ∙ ap (id_of _) c.name.ensures)) (sym c.is_some.ensures ∙ c.if-is_some.false) in
     let both = takes_name _ _ _ _ _ _ _ _ _ _ t.0 (kind_is _ name c.if-token-ne-NAME.false) i (sym c.is_over_long.ensures ∙ c.if-is_over_long.false) c.if-count-lt-NAME_LIMIT.true c.requires c.add.ensures c.reached.ensures in
     record { names = both.0; count_lt_name_limit = both.1 }
 
@@ -52,6 +52,6 @@ pub returns : goal.returns
 unfolding kind_number
 returns c =
     let t = is_token _ _ _ (c.token_at.ensures.value, c.token_at.ensures.placed_in) _ c.in_ok-token.was in
-    let i = no_id (sym (c.find-known.ensures ∙ ap (id_of _) c.name.ensures)) (sym c.is_some.ensures ∙ c.if-is_some.false) in
+    let i = no_id _ (sym (c.find-known.ensures ∙ ap (id_of _) c.name.ensures)) (sym c.is_some.ensures ∙ c.if-is_some.false) in
     let both = refuses_last _ _ _ _ _ _ _ _ _ _ t.0 (kind_is _ name c.if-token-ne-NAME.false) i (sym c.is_over_long.ensures ∙ c.if-is_over_long.false) c.if-count-lt-NAME_LIMIT.false in
     record { names = both.0; count_lt_name_limit = both.1 }
