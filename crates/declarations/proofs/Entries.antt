@@ -12,6 +12,7 @@ use Rattle.lexer.specs.declared.Place.{Place}
 use Rattle.lexer.specs.Results.{Step}
 use Rattle.std.specs.Prelude.{Ok, Err}
 use Rattle.limits.specs.declared.Refusal.{Refusal}
+use Rattle.limits.specs.Refusals.{number_of, place_of}
 use Rattle.phrases.specs.Inner.Steps.{parsed_of, nothing, answered, Writes}
 use Rattle.phrases.proofs.Writing.{got, refuses}
 use Rattle.grammar.proofs.Combine.{then_then, never}
@@ -45,8 +46,8 @@ pub spellings_more : (names : List Name) (x : Name) → spellings (names ++ (x �
 spellings_more [] x = refl
 spellings_more (y ∷ names) x = ap (λ (l : List (List ℕ)). y.spelling ∷ l) (spellings_more names x)
 
-pub step_refused : (e : Refusal) (x : Place) {A : Type 0} → Err e ≡ Ok x → A
-step_refused k p x h = let z : ◌≡◌ {A = ℕ} 0 1 = cc in absurd (omega arith)
+pub step_refused : {e : Refusal} {x : Place} {A : Type 0} → ◌≡◌ {A = Step} (Err e) (Ok x) → A
+step_refused h = let z : ◌≡◌ {A = ℕ} 0 1 = cc in absurd (omega arith)
 
 module _ (text starts ends : List ℕ) (at to count : ℕ) (before mid starts' ends' : List ℕ) where
   abbrev Answers : Step → Type 0
@@ -54,11 +55,11 @@ module _ (text starts ends : List ℕ) (at to count : ℕ) (before mid starts' e
 
   module _ {named : Step} (h : (names : List Name) → TableHolds text starts ends count names → Names text names at count ends starts' ends' named) where
     pub unnamed : {e : Refusal} → named ≡ Err e → Answers named
-    unnamed {k} {q} g = (
+    unnamed {e} g = (
       λ names held.
-          let e = no_new_name text names at k q (refused_then (λ (x : List ℕ). tt {0}) (new_name text names at) k q (sym (h names held).answer ∙ ap (parsed_of nothing) g)) in
-          record { writes = refuses g e; named = λ x n f. never k q n x (sym e ∙ f); ranged = λ stand x n f. never k q n x (sym e ∙ f) },
-      λ x f. step_refused k q x (sym g ∙ f),
+          let i = no_new_name text names at _ _ (refused_then (λ (x : List ℕ). tt {0}) (new_name text names at) (number_of e) (place_of e) (sym (h names held).answer ∙ ap (parsed_of nothing) g)) in
+          record { writes = refuses g i; named = λ y n f. never _ _ n y (sym i ∙ f); ranged = λ stand y n f. never _ _ n y (sym i ∙ f) },
+      λ y f. step_refused (sym g ∙ f),
     )
 
     module _ {next : Place} (g : named ≡ Ok next) {r : Step} (w : Writes range_bytes nothing (λ _. tt) (declared_range text next.at) to before mid r) where

@@ -78,11 +78,11 @@ module _ (word : Kind) (text : List ℕ) (names : List Name) (at to : ℕ) (befo
   }
 
   refuses : (after' ends₀ starts ends : List ℕ) {r : Step} (e : Refusal) → r ≡ Err e → declarations word text names at ≡ refused (number_of e) (place_of e) → DeclaresAll word text names at to before after' ends₀ starts ends r
-  refuses after' ends₀ starts ends k p h e = record { writes = W.refuses h e; named = λ all n f. never k p n all (sym e ∙ f); ranged = λ stand all n f. never k p n all (sym e ∙ f) }
+  refuses after' ends₀ starts ends e h f = record { writes = W.refuses h f; named = λ all n g. never _ _ n all (sym f ∙ g); ranged = λ stand all n g. never _ _ n all (sym f ∙ g) }
 
   module _ (ends₀ starts ends after' : List ℕ) (a known t : ℕ) (g : Going word text names at to before ends₀ starts ends after' a known t) where
     pub stops_fault : {r : Step} {e : Refusal} → r ≡ Err e → (token_at text a ≡ fault (place_of e)) × (e ≡ NoToken (place_of e)) → DeclaresAll word text names at to before after' ends₀ starts ends r
-    stops_fault {p = p} h e = refuses after' ends₀ starts ends no_token p (h ∙ ap (λ (x : ℕ). Err e) e.1) (g.goes ∙ turn_fault g.fuel word text (names ++ g.new) a p e.0)
+    stops_fault {e = e} h f = refuses after' ends₀ starts ends _ (h ∙ ap Err f.1) (g.goes ∙ turn_fault g.fuel word text (names ++ g.new) a (place_of e) f.0)
 
     module _ (k : Kind) (s n : ℕ) (e : token_at text a ≡ token k s n) where
       pub ends_all : {r : Step} → r ≡ reached_at a t known → is k word ≡ false → DeclaresAll word text names at to before after' ends₀ starts ends r
@@ -98,8 +98,8 @@ module _ (word : Kind) (text : List ℕ) (names : List Name) (at to : ℕ) (befo
 
       module _ (f : is k word ≡ true) (mid starts' ends' : List ℕ) where
         module _ {one : Step} (d : DeclaresOne text (names ++ g.new) n t known after' mid ends starts' ends' one) where
-          pub stops_at : {e : Refusal} → one ≡ Err e → DeclaresAll word text names at to before mid ends₀ starts' ends' one
-          stops_at {q} {p} h = refuses mid ends₀ starts' ends' q p h (g.goes ∙ turn_refused g.fuel word text (names ++ g.new) a k s n e q p f (refused_part d.writes h))
+          pub stops_at : {x : Refusal} → one ≡ Err x → DeclaresAll word text names at to before mid ends₀ starts' ends' one
+          stops_at h = refuses mid ends₀ starts' ends' _ h (g.goes ∙ turn_refused g.fuel word text (names ++ g.new) a k s n e _ _ f (refused_part d.writes h))
 
           pub more : {x : Place} → known < 64 → one ≡ Ok x → Going word text names at to before ends₀ starts' ends' mid x.at (known + 1) x.to
           more {x} few h =
@@ -156,7 +156,7 @@ module _ (word : Kind) (text : List ℕ) (at to : ℕ) (before starts₀ ends₀
         (d : (names : List Name) → TableHolds text starts ends known names → DeclaresOne text names n t known after' mid ends starts' ends' one)
         (l : (x : Place) → one ≡ Ok x → (known < 64) × (x.to ≤ t + 15))
       where
-        pub turns-out : {e : Refusal} → one ≡ Err e → (names : List Name) → TableHolds text starts₀ ends₀ count names → DeclaresAll word text names at to before mid ends₀ starts' ends' one
+        pub turns-out : {x : Refusal} → one ≡ Err x → (names : List Name) → TableHolds text starts₀ ends₀ count names → DeclaresAll word text names at to before mid ends₀ starts' ends' one
         turns-out h names held =
             let go = g.going names held in
             stops_at word text names at to before ends₀ starts ends after' a known t go k s n e f mid starts' ends' (d (names ++ go.new) go.held) h

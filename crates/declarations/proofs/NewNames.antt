@@ -1,8 +1,9 @@
 -- Laws of a new name: the ways through its tests, and the table with it. Assumes nothing.
 use mathlib.Core.Path.{◌≡◌, refl, sym, ap, ◌∙◌}
-use mathlib.Core.Bool.{true, false}
+use mathlib.Core.Bool.{true, false, false≢true}
 use mathlib.Core.List.{List, [], ◌∷◌, ◌++◌}
 use mathlib.Core.Option.{none, some}
+use mathlib.Core.Option as O
 use Prim.Native.Nat.{ℕ, ◌≤◌, ◌<◌}
 use native.Mathlib.Numerals.{add-one}
 use native.Mathlib.Omega.{arith}
@@ -18,10 +19,10 @@ use Rattle.lexer.proofs.Table.{names-add}
 use Rattle.semantics.specs.Program.{Name}
 use Rattle.grammar.specs.Parsed.{accepted, refused}
 use Rattle.grammar.specs.Declarations.{spellings, new_name}
-use Rattle.lexer.specs.Results.{reached_at}
+use Rattle.lexer.specs.Results.{reached_at, found_id}
 use Rattle.lexer.specs.declared.Place.{Place}
 use Rattle.lexer.specs.Results.{Step}
-use Rattle.std.specs.Prelude.{Ok, Err}
+use Rattle.std.specs.Prelude.{Ok, Err, Option, Some, None, is_some}
 use Rattle.limits.specs.declared.Refusal.{Refusal}
 use Rattle.limits.specs.declared.Refusal.TheVariants.{NoToken, NotAllowed, TooMany, WrongName}
 use Rattle.limits.specs.Refusals.{number_of, place_of}
@@ -59,6 +60,16 @@ module _ (text : List ℕ) (names : List Name) (at : ℕ) where
         unfolding new_name
         fresh_name l h = rw (e, f, g, l, lt-ltb _ _ h)
 
+-- ---- an id that was looked for
+
+pub an_id : (o : Option ℕ) {i : O.Option ℕ} → i ≡ found_id o → is_some o ≡ true → (n : ℕ) × (i ≡ some n)
+an_id (Some n) e f = (n, e)
+an_id None e f = absurd (false≢true f)
+
+pub no_id : (o : Option ℕ) {i : O.Option ℕ} → i ≡ found_id o → is_some o ≡ false → i ≡ none
+no_id (Some n) e f = absurd (false≢true (sym f))
+no_id None e f = e
+
 -- ---- the answer
 
 module _ (text starts ends : List ℕ) (at count : ℕ) (starts' ends' : List ℕ) where
@@ -66,26 +77,26 @@ module _ (text starts ends : List ℕ) (at count : ℕ) (starts' ends' : List �
   Answers r = ((names : List Name) → TableHolds text starts ends count names → Names text names at count ends starts' ends' r) × ((x : Place) → r ≡ Ok x → count < 64)
 
   refuses : {r : Step} (e : Refusal) → r ≡ Err e → ((names : List Name) → TableHolds text starts ends count names → new_name text names at ≡ refused (number_of e) (place_of e)) → Answers r
-  refuses k p g f =
-      (λ names h. record { answer = rw (g, f names h); named = λ w n e. never k p n w (sym (f names h) ∙ e); ended = λ w n e. never k p n w (sym (f names h) ∙ e) }, λ x e. step_refused k p x (sym g ∙ e))
+  refuses e g f =
+      (λ names h. record { answer = rw (g, f names h); named = λ w n i. never _ _ n w (sym (f names h) ∙ i); ended = λ w n i. never _ _ n w (sym (f names h) ∙ i) }, λ x i. step_refused (sym g ∙ i))
 
   pub faulty_name : {r : Step} (e : Refusal) → r ≡ Err e → (token_at text at ≡ fault (place_of e)) × (e ≡ NoToken (place_of e)) → Answers r
-  faulty_name k p g e = refuses no_token p (g ∙ ap (λ (x : ℕ). Err e) e.1) (λ names h. name_fault text names at p e.0)
+  faulty_name e g f = refuses _ (g ∙ ap Err f.1) (λ names h. name_fault text names at (place_of e) f.0)
 
   module _ (k : Kind) (s n : ℕ) (e : token_at text at ≡ token k s n) where
     pub refuses_other : is k name ≡ false → Answers (Err (NotAllowed s))
-    refuses_other f = refuses not_allowed s refl (λ names h. no_name text names at k s n e f)
+    refuses_other f = refuses (NotAllowed s) refl (λ names h. no_name text names at k s n e f)
 
     module _ (f : is k name ≡ true) where
       pub refuses_known : (i : ℕ) → id_of (table_names text starts ends count) (part text s n) ≡ some i → Answers (Err (WrongName s))
-      refuses_known i g = refuses wrong_name s refl (λ names h. known_name text names at k s n e f i (rw h.spelled at g))
+      refuses_known i g = refuses (WrongName s) refl (λ names h. known_name text names at k s n e f i (rw h.spelled at g))
 
       module _ (g : id_of (table_names text starts ends count) (part text s n) ≡ none) where
         pub refuses_long : over_long s n ≡ true → Answers (Err (TooMany s))
-        refuses_long l = refuses too_many s refl (λ names h. long_name text names at k s n e f (rw h.spelled at g) l)
+        refuses_long l = refuses (TooMany s) refl (λ names h. long_name text names at k s n e f (rw h.spelled at g) l)
 
         pub refuses_last : over_long s n ≡ false → name_limit ≤ count → Answers (Err (TooMany s))
-        refuses_last l m = refuses too_many s refl (λ names h. last_name text names at k s n e f (rw h.spelled at g) l (omega (arith, h.counted)))
+        refuses_last l m = refuses (TooMany s) refl (λ names h. last_name text names at k s n e f (rw h.spelled at g) l (omega (arith, h.counted)))
 
         pub takes_name : over_long s n ≡ false → count < name_limit → TableRoom starts ends count → (starts' ≡ set starts count s) × (ends' ≡ set ends count n) → {r : Step} → r ≡ reached_at n 0 0 → Answers r
         takes_name l m room a d = (

@@ -107,15 +107,15 @@ module _ (text starts ends watched limits : List ℕ) (inputs first at to count 
       ((x : WithTimers) → TimersHeld text starts ends watched limits first count x → TimerDeclared text inputs first x at to count before mid starts' ends' watched' limits' r) × ((x : Place) → r ≡ Ok x → (count < 64) × (x.to ≤ to + 15))
 
   refuses_timer : (watched' limits' mid : List ℕ) {r : Step} {e : Refusal} → r ≡ Err e → ((x : WithTimers) → TimersHeld text starts ends watched limits first count x → timer_declaration text inputs first x at ≡ refused (number_of e) (place_of e)) → Answers watched' limits' mid r
-  refuses_timer watched' limits' mid {k = k} {q = q} g e = (
-    λ x held. record { writes = refuses g (e x held); held = λ y n f. never k q n y (sym (e x held) ∙ f) },
-    λ x f. step_refused k q x (sym g ∙ f),
+  refuses_timer watched' limits' mid g h = (
+    λ x held. record { writes = refuses g (h x held); held = λ y n f. never _ _ n y (sym (h x held) ∙ f) },
+    λ x f. step_refused (sym g ∙ f),
   )
 
   module _ {named : Step} (h : (names : List Name) → TableHolds text starts ends count names → Names text names at count ends starts' ends' named) where
     pub timer_unnamed : (watched' limits' mid : List ℕ) {e : Refusal} → named ≡ Err e → Answers watched' limits' mid named
-    timer_unnamed watched' limits' mid {k} {q} g = refuses_timer watched' limits' mid g
-        (λ x held. no_timer_name text inputs first x at k q (refused_then (λ (w : List ℕ). tt {0}) (new_name text x.names at) k q (sym (h x.names held.known.table).answer ∙ ap (parsed_of nothing) g)))
+    timer_unnamed watched' limits' mid {e} g = refuses_timer watched' limits' mid g
+        (λ x held. no_timer_name text inputs first x at _ _ (refused_then (λ (w : List ℕ). tt {0}) (new_name text x.names at) (number_of e) (place_of e) (sym (h x.names held.known.table).answer ∙ ap (parsed_of nothing) g)))
 
     watch_more : (names : List Name) → Watchables text starts ends count first names → (t : List ℕ) (n : ℕ) → new_name text names at ≡ accepted t n → Watchables text starts' ends' (count + 1) first (names ++ (timer_name t ∷ []))
     watch_more names k t n e =

@@ -87,11 +87,11 @@ module _ (text : List ℕ) (inputs first : ℕ) (x : WithTimers) (at to : ℕ) (
       }
 
   refuses : (after' starts ends watched limits : List ℕ) {r : Step} (e : Refusal) → r ≡ Err e → timers_from item_bound text inputs first x at ≡ refused (number_of e) (place_of e) → DeclaresTimers text inputs first x at to before after' starts ends watched limits r
-  refuses after' starts ends watched limits k p h e = record { writes = W.refuses h e; held = λ y n f. never k p n y (sym e ∙ f) }
+  refuses after' starts ends watched limits e h f = record { writes = W.refuses h f; held = λ y n i. never _ _ n y (sym f ∙ i) }
 
   module _ (starts ends watched limits after' : List ℕ) (a known t : ℕ) (g : TimersGoing text inputs first x at to before starts ends watched limits after' a known t) where
     pub stops_fault : {r : Step} {e : Refusal} → r ≡ Err e → (token_at text a ≡ fault (place_of e)) × (e ≡ NoToken (place_of e)) → DeclaresTimers text inputs first x at to before after' starts ends watched limits r
-    stops_fault {p = p} h e = refuses after' starts ends watched limits no_token p (h ∙ ap (λ (z : ℕ). Err e) e.1) (g.goes ∙ turn_fault g.fuel text inputs first g.all a p e.0)
+    stops_fault {e = e} h f = refuses after' starts ends watched limits _ (h ∙ ap Err f.1) (g.goes ∙ turn_fault g.fuel text inputs first g.all a (place_of e) f.0)
 
     module _ (k : Kind) (s n : ℕ) (e : token_at text a ≡ token k s n) where
       pub ends_all : {r : Step} → r ≡ reached_at a t known → is k timer_word ≡ false → DeclaresTimers text inputs first x at to before after' starts ends watched limits r
@@ -103,8 +103,8 @@ module _ (text : List ℕ) (inputs first : ℕ) (x : WithTimers) (at to : ℕ) (
           }
 
       module _ (f : is k timer_word ≡ true) (mid starts' ends' watched' limits' : List ℕ) {one : Step} (d : TimerDeclared text inputs first g.all n t known after' mid starts' ends' watched' limits' one) where
-        stops_at : {e : Refusal} → one ≡ Err e → DeclaresTimers text inputs first x at to before mid starts' ends' watched' limits' one
-        stops_at {q} {p} h = refuses mid starts' ends' watched' limits' q p h (g.goes ∙ turn_refused g.fuel text inputs first g.all a k s n e q p f (refused_part d.writes h))
+        stops_at : {i : Refusal} → one ≡ Err i → DeclaresTimers text inputs first x at to before mid starts' ends' watched' limits' one
+        stops_at h = refuses mid starts' ends' watched' limits' _ h (g.goes ∙ turn_refused g.fuel text inputs first g.all a k s n e _ _ f (refused_part d.writes h))
 
         more : {y : Place} → known < 64 → one ≡ Ok y → TimersGoing text inputs first x at to before starts' ends' watched' limits' mid y.at (known + 1) y.to
         more {y} few h =
@@ -160,7 +160,7 @@ module _ (text : List ℕ) (inputs first at to : ℕ) (before starts₀ ends₀ 
         (d : (x : WithTimers) → TimersHeld text starts ends watched limits first known x → TimerDeclared text inputs first x n t known after' mid starts' ends' watched' limits' one)
         (l : (y : Place) → one ≡ Ok y → (known < 64) × (y.to ≤ t + 15))
       where
-        pub turns-out : {e : Refusal} → one ≡ Err e → (x : WithTimers) → TimersHeld text starts₀ ends₀ watched₀ limits₀ first first x → DeclaresTimers text inputs first x at to before mid starts' ends' watched' limits' one
+        pub turns-out : {i : Refusal} → one ≡ Err i → (x : WithTimers) → TimersHeld text starts₀ ends₀ watched₀ limits₀ first first x → DeclaresTimers text inputs first x at to before mid starts' ends' watched' limits' one
         turns-out h x held =
             let go = g.going x held in
             stops_at text inputs first x at to before starts ends watched limits after' a known t go k s n e f mid starts' ends' watched' limits' (d go.all go.held) h

@@ -15,6 +15,7 @@ use Rattle.lexer.specs.Token.{Kind, name, digits, dots, is, token, fault}
 use Rattle.lexer.specs.Lexer.{token_at, over_long, value_of}
 use Rattle.lexer.specs.Names.{id_of}
 use Rattle.lexer.specs.declared.Place.{Place}
+use Rattle.lexer.specs.Results.{Step}
 use Rattle.std.specs.Prelude.{Ok}
 use Rattle.semantics.specs.Program.{Name, Range, range_at, is_binary}
 use Rattle.grammar.specs.Parsed.{Parsed, accepted, refused, sign, expected}
@@ -27,7 +28,7 @@ use Rattle.declarations.specs.Inner.Timers.{Watchables}
 use Rattle.declarations.proofs.Ranges.{no_low, no_dots, no_high, no_start, whole_range}
 use Rattle.declarations.proofs.Standing.{stand_at}
 
-pub done_place : {x y : Place} → Ok x ≡ Ok y → x ≡ y
+pub done_place : {x y : Place} → ◌≡◌ {A = Step} (Ok x) (Ok y) → x ≡ y
 done_place e = cc
 
 -- ---- the range that stands at a place

@@ -18,22 +18,16 @@ use limits::Refusal;
 fn is_binary(text: &[u8], at: usize) -> bool
     ensures { (x : Range) (n : ℕ) → declared_range text.now at ≡ accepted x n → result ≡ is_binary x }
 {
-    let first = crate::bound_at(text, at, crate::LOWEST, crate::HIGHEST);
-    let Ok(low) = first else {
+    let Ok(low) = crate::bound_at(text, at, crate::LOWEST, crate::HIGHEST) else {
         return false;
     };
-    let between = phrases::expect(text, low.at, lexer::DOTS);
-    let Ok(b) = between else {
+    let Ok(b) = phrases::expect(text, low.at, lexer::DOTS) else {
         return false;
     };
-    let second = crate::bound_at(text, b.at, low.value, crate::HIGHEST);
-    let Ok(high) = second else {
+    let Ok(high) = crate::bound_at(text, b.at, low.value, crate::HIGHEST) else {
         return false;
     };
-    if arith::is_equal(low.value, 0) {
-        return arith::is_equal(high.value, 1);
-    }
-    false
+    arith::is_equal(low.value, 0) && arith::is_equal(high.value, 1)
 }
 
 // A `var` of range 0..1: neither an input nor a timer.

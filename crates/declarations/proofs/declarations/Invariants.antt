@@ -1,8 +1,8 @@
+-- The loop's invariant: with the names declared so far, what is left makes the whole. The measure is the number of names that may still
+-- follow. Assumes nothing.
 use Prim.Native.Nat.{◌-◌}
-use native.Mathlib.Omega.{arith}
 use Rattle.lexer.specs.Results.{kind_of}
-use Rattle.lexer.proofs.Tokens.{is_token, is_fault}
-use Rattle.declarations.proofs.Loop.{Turning, turning, room, stops_fault, ends_all, turns-out, turns_on, few_refused, few_reached}
+use Rattle.declarations.proofs.Loop.{Turning}
 use Rattle.declarations.proofs.declarations.Given as goal
 
 abbrev pub invariant-loop-token : goal.invariant-loop-token

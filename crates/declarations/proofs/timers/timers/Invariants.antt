@@ -1,10 +1,7 @@
+-- The loop's invariant: with the names and timers declared so far, what is left makes the whole. The measure is the number of names that
+-- may still follow. Assumes nothing.
 use Prim.Native.Nat.{◌-◌}
-use native.Mathlib.Omega.{arith}
-use Rattle.lexer.specs.Token.{kind_number, timer_word}
-use Rattle.lexer.proofs.KindNumbers.{kind_is, kind_is_not}
-use Rattle.lexer.proofs.Tokens.{is_token, is_fault}
-use Rattle.declarations.proofs.Loop.{few_refused, few_reached}
-use Rattle.declarations.proofs.TimerLoop.{TimersTurning, turning, room, timer_room, stops_fault, ends_all, turns-out, turns_on}
+use Rattle.declarations.proofs.TimerLoop.{TimersTurning}
 use Rattle.declarations.proofs.timers.timers.Given as goal
 
 abbrev pub invariant-loop-token : goal.invariant-loop-token
