@@ -54,8 +54,8 @@ fn repeated(text: &[u8], from: usize, to: usize, at: usize) -> Repetition
     requires { to ≤ length text.now }
     ensures { RepetitionBy text.now from to at result }
 {
-    let first = lexer::classes::run(text, from, lexer::classes::SPACE);
-    let second = lexer::classes::run(text, at, lexer::classes::SPACE);
+    let first = lexer::classes::run(text, from, lexer::classes::Class::Space);
+    let second = lexer::classes::run(text, at, lexer::classes::Class::Space);
     if to <= first {
         return Repetition::Other;
     }

@@ -1,13 +1,16 @@
 -- Laws of flags kept as the bits of a number. Assumes nothing.
-use Prim.Native.Nat.{ℕ, zero, suc, ◌+◌, ◌-◌, ◌*◌, ◌/◌, ◌%◌, ◌^◌, ◌≤◌, ◌<◌}
+use Prim.Native.Nat.{ℕ, zero, suc, ◌+◌, ◌-◌, ◌*◌, ◌/◌, ◌%◌, ◌^◌, ◌≤◌, ◌<◌, min}
 use mathlib.Core.Path.{◌≡◌, refl, ap, ◌∙◌}
-use mathlib.Core.Bool.{true, false}
+use mathlib.Core.Bool.{Bool, true, false}
 use native.Mathlib.Omega.{arith}
-use native.Mathlib.Nat.{div-one}
-use lib.Bits.{bit_or, or_step, or_zero_r, or_lt}
-use lib.Dec.{eqb}
+use native.Mathlib.Nat.{div-one, mod-lt, mod-eq_of_lt, lt_of_lt_of_le, le_of_lt}
+use native.Mathlib.Numerals.{add-one}
+use lib.Bits.{bit_and, bit_or, or_step, or_zero_r, or_lt, and_mask}
+use lib.Count.{ones, ones_step, ones-le}
+use lib.Dec.{eqb, leb}
 use lib.ListN.{length, get_or, set, get_or-eq_default}
-use lib.Pow.{pow-lt, shr-shr, shl_exact}
+use lib.Pow.{pow-lt, pow_mono, pow_pos, shr-shr, shl_exact, field, mod-mod-pow}
+use borrow.Author.Tests.{leb-true, leb-false}
 use Rattle.arith.specs.Inner.Flags.{flags_of, ones_below}
 
 pub length_flags : (n b : ℕ) → length (flags_of n b) ≡ n
@@ -55,11 +58,24 @@ shifted i h = let e : 1 * 2 ^ i ≡ 2 ^ i = omega arith in shl_exact {a = 1} 1 i
 
 -- ---- bits counted
 
-pub ones_none : (n bits : ℕ) → n ≡ 0 → ones_below n bits ≡ 0
+ones_mod : (n bits : ℕ) → ones (bits % 2 ^ n) ≡ ones_below n bits
 unfolding ones_below
-ones_none n bits e = rw e
+ones_mod zero bits = omega (arith, ones-le 0 (bits % 2 ^ 0) (omega arith))
+ones_mod (suc n) bits =
+    let e : n + 1 ≡ suc n = add-one n in
+    let l : bits % 2 ^ suc n % 2 ≡ bits % 2 = rw e at (mod-mod-pow bits n 1) in
+    let h : bits % 2 ^ suc n / 2 ≡ bits / 2 % 2 ^ n = rw e at (field bits n 1) in
+    ones_step (bits % 2 ^ suc n) ∙ rw (l, h, ones_mod n (bits / 2))
 
-pub ones-next : (n bits : ℕ) → 0 < n → ones_below n bits ≡ bits % 2 + ones_below (n - 1) (bits / 2)
-unfolding ones_below
-ones-next zero bits h = let f : ⊥ = omega arith in absurd f
-ones-next (suc n) bits h = let e : suc n - 1 ≡ n = omega arith in rw e
+-- of a number of 64 bits
+pub ones_masked : (n bits m : ℕ) → m ≡ min n 64 → bits < 2 ^ 64 → (ones (bit_and bits (2 ^ m - 1)) ≡ ones_below n bits) × (ones (bit_and bits (2 ^ m - 1)) ≤ n)
+ones_masked n bits m e h = rw (and_mask bits m) (counted (leb n 64) (leb-true n 64) (leb-false n 64), omega (arith, ones-le m (bits % 2 ^ m) (mod-lt bits (pow_pos m))))
+  where
+    counted : (t : Bool) → (t ≡ true → n ≤ 64) → (t ≡ false → 64 < n) → ones (bits % 2 ^ m) ≡ ones_below n bits
+    counted true y k = let q : m ≡ n = let l = y refl in omega arith in rw q (ones_mod n bits)
+    counted false y k =
+        let l = k refl in
+        let q : m ≡ 64 = omega arith in
+        let a : bits % 2 ^ m ≡ bits = rw q (mod-eq_of_lt h) in
+        let b : bits % 2 ^ n ≡ bits = mod-eq_of_lt (lt_of_lt_of_le h (pow_mono (le_of_lt l))) in
+        rw a (rw b at (ones_mod n bits))

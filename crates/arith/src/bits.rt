@@ -34,13 +34,5 @@ pub fn with_bit(bits: u64, i: u64) -> u64
 pub fn count_below(bits: u64, n: usize) -> usize
     ensures { (result ≡ ones_below n bits) × (result ≤ n) }
 {
-    let mut rest = bits;
-    let mut i = 0;
-    let mut count = 0;
-    while i < n {
-        count += (rest % 2) as usize;
-        rest /= 2;
-        i += 1;
-    }
-    count
+    (bits & ones(n.min(64) as u64)).count_ones() as usize
 }

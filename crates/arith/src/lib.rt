@@ -21,10 +21,7 @@ const OUTSIDE: i64 = 2147483648;
 pub fn count(z: i32) -> u64
     ensures { (result ≡ count_of z) × (result < 2 ^ 31) }
 {
-    if 0 <= z {
-        return z as u64;
-    }
-    0
+    z.max(0) as u64
 }
 
 // The number where it is in the 32-bit signed range.

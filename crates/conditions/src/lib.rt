@@ -170,7 +170,7 @@ fn atom(
     requires room { Room text.now at to }
     ensures { Parses text.now bytes_c (atom_in left (scope_of text.now starts.now ends.now names) at) to out.old out.new result }
 {
-    let s = lexer::classes::run(text, at, lexer::classes::SPACE);
+    let s = lexer::classes::run(text, at, lexer::classes::Class::Space);
     let first = lexer::classes::byte_at(text, s);
     if first == TILDE_BYTE {
         return inverted(text, starts, ends, names, s + 1, left, out, to);

@@ -2,11 +2,11 @@
 use mathlib.Core.Path.{◌≡◌, refl, ap, ap₂, sym, ◌∙◌}
 use mathlib.Core.List.{List, [], ◌∷◌}
 use mathlib.Core.Bool.{Bool, true, false, ◌&&◌, cond}
-use Prim.Native.Nat.{ℕ, suc, ◌+◌, ◌-◌, ◌≤◌, ◌<◌}
+use Prim.Native.Nat.{ℕ, suc, ◌-◌, ◌≤◌, ◌<◌}
 use native.Mathlib.Omega.{arith}
 use lib.ListN.{length}
-use lib.Dec.{eqb, leb, ltb}
-use borrow.Author.Tests.{eq-eqb, ne_eqb, eqb-true, eqb-false, leb-true, leb-false, ltb-true, ltb-false, lt-ltb, le-ltb, le-leb}
+use lib.Dec.{leb, ltb}
+use borrow.Author.Tests.{leb-true, leb-false, ltb-true, ltb-false, lt-ltb, le-ltb, le-leb}
 use Rattle.lexer.specs.Bytes.{capital, capitals}
 use Rattle.lexer.specs.Lexer.{is_digit, is_letter, is_alphanumeric}
 use Rattle.lexer.specs.Spelling.{AllBytes, IsWord}
@@ -89,44 +89,3 @@ pub digits_capitals : (w : List ℕ) → AllBytes is_digit w → capitals w ≡ 
 unfolding capitals
 digits_capitals [] h = refl
 digits_capitals (b ∷ w) h = ap₂ (λ (x : ℕ) (l : List ℕ). x ∷ l) (capital_low b (omega (arith, digit_low b h.0))) (digits_capitals w h.1)
-
--- ---- the test of two bytes: a small letter is 32 behind its capital
-
-module _ (x y : ℕ) where
-  pub letter_same : x ≡ y → eqb (capital x) (capital y) ≡ true
-  letter_same e = eq-eqb (capital x) (capital y) (ap capital e)
-
-  no_capital : x + 32 ≡ y → (65 ≤ x → x < 91 → ⊥) → capital x ≡ capital y → ⊥
-  no_capital e f =
-      capital_prop (λ (c : ℕ). c ≡ capital y → ⊥) x (λ h l. capital_prop (λ (d : ℕ). x - 32 ≡ d → ⊥) y (λ h2 l2 q. omega arith) (λ h2 q. omega arith) (λ h2 q. omega arith))
-      (λ h. capital_prop (λ (d : ℕ). x ≡ d → ⊥) y (λ h2 l2 q. f (omega arith) (omega arith)) (λ h2 q. omega arith) (λ h2 q. omega arith))
-      (λ h. capital_prop (λ (d : ℕ). x ≡ d → ⊥) y (λ h2 l2 q. omega arith) (λ h2 q. omega arith) (λ h2 q. omega arith))
-
-  pub letter_small : x + 32 ≡ y → eqb (capital x) (capital y) ≡ (leb 65 x && ltb x 91)
-  letter_small e = go (leb 65 x) refl (ltb x 91) refl
-    where
-      go : (t : Bool) → leb 65 x ≡ t → (u : Bool) → ltb x 91 ≡ u → eqb (capital x) (capital y) ≡ (t && u)
-      go true t true u =
-          let h = leb-true 65 x t in
-          let l = ltb-true x 91 u in
-          eq-eqb (capital x) (capital y) (capital_low x (omega arith) ∙ capital_prop (λ (c : ℕ). x ≡ c) y (λ h2 l2. omega arith) (λ h2. absurd (omega arith)) (λ h2. absurd (omega arith)))
-      go true t false u = ne_eqb (capital x) (capital y) (no_capital e (λ h l. let m = ltb-false x 91 u in omega arith))
-      go false t u v = ne_eqb (capital x) (capital y) (no_capital e (λ h l. let m = leb-false 65 x t in omega arith))
-
-  pub letter_apart : (x ≡ y → ⊥) → (x + 32 ≡ y → ⊥) → (y + 32 ≡ x → ⊥) → eqb (capital x) (capital y) ≡ false
-  letter_apart f g k =
-      ne_eqb (capital x) (capital y)
-      (capital_prop (λ (c : ℕ). c ≡ capital y → ⊥) x
-      (λ h l. capital_prop (λ (d : ℕ). x - 32 ≡ d → ⊥) y (λ h2 l2 q. f (omega arith)) (λ h2 q. k (omega arith)) (λ h2 q. k (omega arith)))
-      (λ h. capital_prop (λ (d : ℕ). x ≡ d → ⊥) y (λ h2 l2 q. g (omega arith)) (λ h2 q. f q) (λ h2 q. f q))
-      (λ h. capital_prop (λ (d : ℕ). x ≡ d → ⊥) y (λ h2 l2 q. g (omega arith)) (λ h2 q. f q) (λ h2 q. f q)))
-
-eqb_back : (a b : ℕ) → eqb a b ≡ eqb b a
-eqb_back a b = go (eqb b a) refl
-  where
-    go : (t : Bool) → eqb b a ≡ t → eqb a b ≡ t
-    go true e = eq-eqb a b (sym (eqb-true b a e))
-    go false e = ne_eqb a b (λ q. eqb-false b a e (sym q))
-
-pub letter_capital_of : (x y : ℕ) → y + 32 ≡ x → eqb (capital x) (capital y) ≡ (leb 65 y && ltb y 91)
-letter_capital_of x y e = eqb_back (capital x) (capital y) ∙ letter_small y x e

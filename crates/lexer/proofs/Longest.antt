@@ -11,7 +11,7 @@ use native.Mathlib.Nat.{le_refl}
 use borrow.Author.Tests.{eqb-true, eq-eqb, ltb-true, ltb-false, lt-ltb, le-ltb}
 use mathlib.Core.Logic.{◌⊎◌, inl, inr}
 use Rattle.lexer.specs.Bytes.{part, same_bytes}
-use Rattle.lexer.specs.Token.{Kind, kind_number, unknown, ending, name, previous, digits, less, is, TokenRead, token, fault}
+use Rattle.lexer.specs.Token.{Kind, kind_number, unknown, ending, name, previous, digits, is, TokenRead, token, fault}
 use Rattle.lexer.specs.Lexer.{is_space, is_digit, is_letter, is_alphanumeric, run_end, word_of, pair_of, sign_of, read_of, sign_at, word_at, digits_at, previous_at, token_of, token_past, token_at}
 use Rattle.lexer.specs.Spelling.{AllBytes, IsWord, SpellsName, Spelling, TokenFrom, Separated, FirstRead, a_token, the_end, no_token_lem, ReadsTokens}
 use Rattle.lexer.proofs.Laws.{cond_prop, second_byte, letter_in_run, run_out, run_stop, run_from, run_within, run_some}

@@ -13,11 +13,7 @@ pub fn fill(to: &mut [i32], from: &[i32])
     requires { length from.now ≤ length to.old }
     ensures { to.new ≡ from.now ++ drop (length from.now) to.old }
 {
-    let mut i = 0;
-    while i < from.len() {
-        to[i] = from[i];
-        i += 1;
-    }
+    to[..from.len()].copy_from_slice(from);
 }
 
 // The place n behind `at`, no further than `most`.
@@ -25,10 +21,7 @@ pub fn behind(at: usize, n: usize, most: usize) -> usize
     requires { at ≤ most }
     ensures { result ≡ min (at + n) most }
 {
-    if n < most - at {
-        return at + n;
-    }
-    most
+    at.saturating_add(n).min(most)
 }
 
 // `from`, written into `to` from a place on, as far as there is room; the place behind it.
@@ -38,11 +31,7 @@ pub fn store(to: &mut [i32], at: usize, from: &[i32]) -> usize
     ensures to_after { to.new ≡ sets to.old at from.now }
 {
     let end = behind(at, from.len(), to.len());
-    let mut i = at;
-    while i < end {
-        to[i] = from[i - at];
-        i += 1;
-    }
+    to[at..end].copy_from_slice(&from[..end - at]);
     end
 }
 
@@ -51,7 +40,7 @@ pub fn take_row(copy: &mut [i32], state: &[i32], row: &[i32])
     requires { (length copy.old ≡ length state.now) × (length row.now ≤ length state.now) }
     ensures { copy.new ≡ with_inputs state.now row.now }
 {
-    fill(copy, state);
+    copy.copy_from_slice(state);
     fill(copy, row);
 }
 
@@ -60,12 +49,10 @@ pub fn all_in_range(low: &[i32], high: &[i32], values: &[i32]) -> bool
     requires { (length values.now ≤ length low.now) × (length high.now ≡ length low.now) }
     ensures { (ns : List Range) → RangesIn ns low.now high.now → result ≡ all_within ns values.now }
 {
-    let mut i = 0;
-    while i < values.len() {
-        if !values::in_range(low[i], high[i], values[i]) {
+    for (i, v) in values.iter().enumerate() {
+        if !values::in_range(low[i], high[i], *v) {
             return false;
         }
-        i += 1;
     }
     true
 }

@@ -30,7 +30,7 @@ pub enum Shaped {
     Refused(u8, usize),
 }
 
-// A count, where there is room for it.
+// A count, where there is room for it. `get_mut` promises nothing of the elements after a write through it.
 fn put_count(out: &mut [i32], at: usize, n: u64)
     requires { n < 2 ^ 31 }
     ensures { out.new ≡ set out.old at (pos n) }
@@ -72,10 +72,8 @@ fn place_times(limits: &[u64], low: &mut [i32], high: &mut [i32]) -> Times
         size: limits.len(),
         timers: 0,
     };
-    let mut i = 0;
-    while i < limits.len() {
-        t = place_time(limits[i], i, t, low, high);
-        i += 1;
+    for (i, limit) in limits.iter().enumerate() {
+        t = place_time(*limit, i, t, low, high);
     }
     t
 }

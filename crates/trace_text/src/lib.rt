@@ -191,7 +191,7 @@ fn digit(n: usize, negative: bool, v: u64, b: u8) -> Line
     if !classes::is_digit(b) {
         return Line::NoRow;
     }
-    longer(n, negative, v, classes::wide(b) % 16)
+    longer(n, negative, v, u64::from(b) % 16)
 }
 
 fn begin(n: usize, b: u8) -> Line

@@ -1,7 +1,10 @@
--- Classes of bytes by number: which runs the one run function follows. Assumes nothing.
-use Rattle.std.specs.Prelude.{ℕ, Bool, cond, eqb}
+-- Classes of bytes: which runs the one run function follows. Assumes nothing.
+use Rattle.std.specs.Prelude.{ℕ, Bool}
 use Rattle.lexer.specs.Lexer.{is_space, is_digit, is_alphanumeric}
+use Rattle.lexer.specs.declared.classes.Class.{Class}
+use Rattle.lexer.specs.declared.classes.Class.TheVariants.{Space, Digit, Alphanumeric}
 
--- 0 space, 1 digits, else letters and digits
-abbrev pub member : ℕ → ℕ → Bool
-member class b = cond (eqb class 0) (is_space b) (cond (eqb class 1) (is_digit b) (is_alphanumeric b))
+abbrev pub member : Class → ℕ → Bool
+member Space b = is_space b
+member Digit b = is_digit b
+member Alphanumeric b = is_alphanumeric b

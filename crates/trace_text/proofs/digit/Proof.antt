@@ -15,7 +15,7 @@ returns c = rw (sym c.is_digit.ensures ∙ not-true _ c.if-not-is_digit.true-raw
 longer-requires : tie.Need-longer-requires
 longer-requires c κs =
     let at-if1 = c.before in
-    rw c.wide.ensures (digit_low _ (sym at-if1.is_digit.ensures ∙ not-false _ at-if1.if-not-is_digit.false-raw))
+    rw c.from.ensures (digit_low _ (sym at-if1.is_digit.ensures ∙ not-false _ at-if1.if-not-is_digit.false-raw))
 
 returns-2 : tie.Need-returns
 unfolding digit_after
@@ -23,7 +23,7 @@ returns-2 c =
     let at-if1 = c.before.before in
     let start = at-if1.before.before in
     rw (sym at-if1.is_digit.ensures ∙ not-false _ at-if1.if-not-is_digit.false-raw)
-    (c.longer.ensures ∙ ap (λ (x : ℕ). longer_by start.args.n start.args.negative start.args.v (x % 16)) c.wide.ensures)
+    (c.longer.ensures ∙ ap (λ (x : ℕ). longer_by start.args.n start.args.negative start.args.v (x % 16)) c.from.ensures)
 
 pub digit_spec : {M : Type 1} → statement M
 digit_spec = tie.close (tie.spec (λ c κs. search rules) returns (λ c κs. search rules) longer-requires returns-2)
