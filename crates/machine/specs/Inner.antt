@@ -3,3 +3,4 @@ pub mod Dispatch
 pub mod Groups
 pub mod Memory
 pub mod Passing
+pub mod Sides

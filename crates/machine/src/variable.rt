@@ -1,15 +1,47 @@
 // A variable: the gate before a case, and the instructions that give its value.
 ghost use Rattle.std.specs.Prelude.{◌≡◌, List, ◌≤◌, ℤ, length};
 ghost use Rattle.limits.specs.Limits.{stack_limit};
-ghost use Rattle.semantics.specs.Program.{changing, rising, falling};
+ghost use Rattle.semantics.specs.ReferenceScan.{moves, stays};
 ghost use Rattle.semantics.specs.Formula.{State};
 ghost use Rattle.semantics.specs.Shape.{Setting};
 ghost use Rattle.bytecode.specs.Instructions.{gate as gating, pick as picking, assign as assigning, settle as settling};
 ghost use Rattle.machine.specs.Step.{perform};
 ghost use Rattle.machine.specs.Inner.Memory.{held_of, step_outcome, RangesIn, Stack, Few, OneEach};
 ghost use Rattle.machine.specs.Inner.Groups.{OnStack};
+ghost use Rattle.machine.specs.Inner.Sides.{side_of};
 
 use crate::{Registers, Stepped, values};
+
+// The side of the previous value on which a pick's value has to lie: not equal to it, above it, or below it.
+#[derive(Clone, Copy)]
+pub enum Side {
+    Changing,
+    Rising,
+    Falling,
+}
+
+impl Side {
+    // Whether a value lies there.
+    fn moves(self, before: i32, v: i32) -> bool
+        ensures { result ≡ moves (side_of self) before v }
+    {
+        match self {
+            Side::Changing => v != before,
+            Side::Rising => before < v,
+            Side::Falling => v < before,
+        }
+    }
+
+    // The refusal of one that does not.
+    fn stays(self) -> u8
+        ensures { result ≡ stays (side_of self) }
+    {
+        match self {
+            Side::Changing => limits::EQUAL_TO_PREVIOUS,
+            Side::Rising | Side::Falling => limits::WRONG_DIRECTION,
+        }
+    }
+}
 
 // A false condition passes over what stands up to the next pick; a true one after a pick is refused.
 pub fn gate(vals: &[i32], m: Registers) -> Stepped
@@ -76,8 +108,9 @@ pub fn assign(
     })
 }
 
-// The same, refused first if it is equal to the previous value.
+// The same, refused first if it does not lie on the side wanted of the previous value.
 pub fn pick(
+    side: Side,
     low: &[i32],
     high: &[i32],
     prev: &[i32],
@@ -90,7 +123,7 @@ pub fn pick(
     requires one_each { OneEach low.now high.now prev.now cur.old }
     ensures cur_after { (ns : Setting) → RangesIn ns.ranges low.now high.now
         → step_outcome result vals.now cur.new
-        ≡ perform ns prev.now (picking changing id) m.picked (held_of vals.now m.held) cur.old }
+        ≡ perform ns prev.now (picking (side_of side) id) m.picked (held_of vals.now m.held) cur.old }
     ensures few { Few result }
 {
     let n = m.held;
@@ -102,82 +135,8 @@ pub fn pick(
     if prev.len() <= i {
         return Stepped::Refused(limits::BROKEN_IMAGE);
     }
-    if arith::is_equal(vals[top], prev[i]) {
-        return Stepped::Refused(limits::EQUAL_TO_PREVIOUS);
-    }
-    let k = Registers {
-        held: n,
-        picked: true,
-        passing: false,
-    };
-    assign(low, high, cur, vals, k, id)
-}
-
-// The same, refused first if it is at or below the previous value.
-pub fn rise(
-    low: &[i32],
-    high: &[i32],
-    prev: &[i32],
-    cur: &mut [i32],
-    vals: &[i32],
-    m: Registers,
-    id: u64,
-) -> Stepped
-    requires stack { Stack m vals.now }
-    requires one_each { OneEach low.now high.now prev.now cur.old }
-    ensures cur_after { (ns : Setting) → RangesIn ns.ranges low.now high.now
-        → step_outcome result vals.now cur.new
-        ≡ perform ns prev.now (picking rising id) m.picked (held_of vals.now m.held) cur.old }
-    ensures few { Few result }
-{
-    let n = m.held;
-    if n == 0 {
-        return Stepped::Refused(limits::BROKEN_IMAGE);
-    }
-    let top = n - 1;
-    let i = id as usize;
-    if prev.len() <= i {
-        return Stepped::Refused(limits::BROKEN_IMAGE);
-    }
-    if arith::is_less_equal(vals[top], prev[i]) {
-        return Stepped::Refused(limits::WRONG_DIRECTION);
-    }
-    let k = Registers {
-        held: n,
-        picked: true,
-        passing: false,
-    };
-    assign(low, high, cur, vals, k, id)
-}
-
-// The same, refused first if it is at or above the previous value.
-pub fn fall(
-    low: &[i32],
-    high: &[i32],
-    prev: &[i32],
-    cur: &mut [i32],
-    vals: &[i32],
-    m: Registers,
-    id: u64,
-) -> Stepped
-    requires stack { Stack m vals.now }
-    requires one_each { OneEach low.now high.now prev.now cur.old }
-    ensures cur_after { (ns : Setting) → RangesIn ns.ranges low.now high.now
-        → step_outcome result vals.now cur.new
-        ≡ perform ns prev.now (picking falling id) m.picked (held_of vals.now m.held) cur.old }
-    ensures few { Few result }
-{
-    let n = m.held;
-    if n == 0 {
-        return Stepped::Refused(limits::BROKEN_IMAGE);
-    }
-    let top = n - 1;
-    let i = id as usize;
-    if prev.len() <= i {
-        return Stepped::Refused(limits::BROKEN_IMAGE);
-    }
-    if arith::is_greater_equal(vals[top], prev[i]) {
-        return Stepped::Refused(limits::WRONG_DIRECTION);
+    if !side.moves(prev[i], vals[top]) {
+        return Stepped::Refused(side.stays());
     }
     let k = Registers {
         held: n,

@@ -77,11 +77,11 @@ returns-11 c =
 
 returns-12 : tie.Need-returns-in-24
 unfolding instruction_of
-returns-12 c = (λ ns r. c.rise.ensures.0 ns r ∙ rw c.in-24.is, c.rise.ensures.1)
+returns-12 c = (λ ns r. c.pick-in-24.ensures.0 ns r ∙ rw c.in-24.is, c.pick-in-24.ensures.1)
 
 returns-13 : tie.Need-returns-in-25
 unfolding instruction_of
-returns-13 c = (λ ns r. c.fall.ensures.0 ns r ∙ rw c.in-25.is, c.fall.ensures.1)
+returns-13 c = (λ ns r. c.pick-in-25.ensures.0 ns r ∙ rw c.in-25.is, c.pick-in-25.ensures.1)
 
 returns-14 : tie.Need-returns-in-4-to-8
 returns-14 c =
