@@ -1,15 +1,13 @@
 -- Laws of the table as the loops walk it: two numbers an entry. Assumes nothing.
 use mathlib.Core.Path.{◌≡◌, refl}
 use mathlib.Core.Bool.{Bool, true, false, ◌&&◌, cond}
-use mathlib.Core.List.{List, [], ◌∷◌}
-use Prim.Native.Nat.{ℕ, suc, ◌+◌, ◌/◌, ◌%◌, ◌≤◌, ◌<◌}
-use native.Mathlib.Numerals.{add-one}
+use mathlib.Core.List.{List, [], ◌∷◌, ◌++◌}
+use Prim.Native.Nat.{◌/◌, ◌%◌, ◌≤◌, ◌<◌}
 use native.Mathlib.Omega.{arith}
 use borrow.Author.Tests.{eq-eqb, ne_eqb, le-leb, lt-leb, leb-true}
 use lib.Dec.{leb, eqb}
 use lib.IntN.{ℤ, pos, negsuc, ◌+ℤ◌}
-use lib.ListN.{length, get_or, drop, length-drop}
-use lib.Seq.{drop-cons}
+use lib.ListN.{length, get_or}
 use lib.Signed.{mag, le_z, lt_z}
 use Rattle.arith.proofs.Basics.{and_both}
 use Rattle.clock.specs.Clock.{Entry, entries_of, is_minute, is_offset, entry_fits, entries_fit, is_table, offset_from, offset_at, local_at, repeats, repeats_in, is_again}
@@ -21,6 +19,13 @@ short [] h = refl
 short (m ∷ []) h = refl
 short (m ∷ o ∷ l) h = absurd (omega arith)
 
+pair : (e others : List ℤ) → length e ≡ 2 → entries_of (e ++ others) ≡ record { minute = get_or e 0 (pos 0); offset = get_or e 1 (pos 0) } ∷ entries_of others
+unfolding entries_of
+pair [] l h = absurd (omega arith)
+pair (m ∷ []) l h = absurd (omega arith)
+pair (m ∷ o ∷ []) l h = refl
+pair (m ∷ o ∷ x ∷ e) l h = absurd (omega arith)
+
 -- every two numbers are an entry
 entries_count : (l : List ℤ) → length (entries_of l) ≡ length l / 2
 unfolding entries_of
@@ -28,78 +33,66 @@ entries_count [] = refl
 entries_count (m ∷ []) = refl
 entries_count (m ∷ o ∷ l) = let e = entries_count l in omega arith
 
--- ---- the entries from i on
-module _ (l : List ℤ) (i : ℕ) where
+-- ---- the next two numbers, `e`, are an entry; behind them are the `others`
+module _ (e : List ℤ) where
   abbrev minute : ℤ
-  minute = get_or l i (pos 0)
+  minute = get_or e 0 (pos 0)
 
   abbrev offset : ℤ
-  offset = get_or l (i + 1) (pos 0)
+  offset = get_or e 1 (pos 0)
 
-  abbrev from : List Entry
-  from = entries_of (drop i l)
-
-  abbrev next : List Entry
-  next = entries_of (drop (i + 2) l)
-
-  entries_end : length l ≤ i + 1 → from ≡ []
-  entries_end h = short (drop i l) (rw (length-drop i l) (omega arith))
-
-  entries_step : i + 1 < length l → from ≡ record { minute = minute; offset = offset } ∷ next
-  unfolding entries_of
-  entries_step h =
-      let two : i + 2 ≡ suc (suc i) = omega arith in
-      rw (two, add-one i, drop-cons l i (pos 0) (omega arith), drop-cons l (suc i) (pos 0) (omega arith))
+module _ (l e others : List ℤ) (s : l ≡ e ++ others) (two : length e ≡ 2) where
+  entries_step : entries_of l ≡ record { minute = minute e; offset = offset e } ∷ entries_of others
+  entries_step = rw s (pair e others two)
 
   -- the test of the limits
-  module _ (last : ℤ) where
-    pub fit_end : length l ≤ i + 1 → entries_fit last from ≡ true
-    unfolding entries_fit
-    fit_end h = rw (entries_end h)
+  pub fit_stops : (last : ℤ) → entry_fits last (minute e) (offset e) ≡ false → entries_fit last (entries_of l) ≡ false
+  unfolding entries_fit
+  fit_stops last h = rw (entries_step, h)
 
-    pub fit_stops : i + 1 < length l → entry_fits last minute offset ≡ false → entries_fit last from ≡ false
-    unfolding entries_fit
-    fit_stops h e = rw (entries_step h, e)
-
-    pub fit_goes : i + 1 < length l → entry_fits last minute offset ≡ true → entries_fit last from ≡ entries_fit minute next
-    unfolding entries_fit
-    fit_goes h e = rw (entries_step h, e)
+  pub fit_goes : (last : ℤ) → entry_fits last (minute e) (offset e) ≡ true → entries_fit last (entries_of l) ≡ entries_fit (minute e) (entries_of others)
+  unfolding entries_fit
+  fit_goes last h = rw (entries_step, h)
 
   -- the offset in force
-  module _ (held u : ℤ) where
-    pub offset_end : length l ≤ i + 1 → offset_from held from u ≡ held
-    unfolding offset_from
-    offset_end h = rw (entries_end h)
-
-    pub offset_goes : i + 1 < length l → offset_from held from u ≡ offset_from (cond (le_z minute u) offset held) next u
-    unfolding offset_from
-    offset_goes h = rw (entries_step h)
+  pub offset_goes : (held u : ℤ) → offset_from held (entries_of l) u ≡ offset_from (cond (le_z (minute e) u) (offset e) held) (entries_of others) u
+  unfolding offset_from
+  offset_goes held u = rw entries_step
 
   -- the test for a repeated minute
   module _ (t : List Entry) (u : ℤ) where
-    pub repeats_end : length l ≤ i + 1 → repeats_in t u from ≡ false
+    pub repeats_here : repeats t u (offset e) ≡ true → repeats_in t u (entries_of l) ≡ true
     unfolding repeats_in
-    repeats_end h = rw (entries_end h)
+    repeats_here h = rw (entries_step, h)
 
-    pub repeats_here : i + 1 < length l → repeats t u offset ≡ true → repeats_in t u from ≡ true
+    pub repeats_goes : repeats t u (offset e) ≡ false → repeats_in t u (entries_of l) ≡ repeats_in t u (entries_of others)
     unfolding repeats_in
-    repeats_here h e = rw (entries_step h, e)
+    repeats_goes h = rw (entries_step, h)
 
-    pub repeats_goes : i + 1 < length l → repeats t u offset ≡ false → repeats_in t u from ≡ repeats_in t u next
-    unfolding repeats_in
-    repeats_goes h e = rw (entries_step h, e)
+  pub small_step : SmallNumbers (entries_of l) → (mag (offset e) ≤ 840) × SmallNumbers (entries_of others)
+  small_step h = rw entries_step at h
 
-  pub small_step : i + 1 < length l → SmallNumbers from → (mag offset ≤ 840) × SmallNumbers next
-  small_step h s = rw (entries_step h) at s
+-- no entry is left
+module _ (l : List ℤ) (h : length l < 2) where
+  pub fit_end : (last : ℤ) → entries_fit last (entries_of l) ≡ true
+  unfolding entries_fit
+  fit_end last = rw (short l (omega arith))
+
+  pub offset_end : (held u : ℤ) → offset_from held (entries_of l) u ≡ held
+  unfolding offset_from
+  offset_end held u = rw (short l (omega arith))
+
+  pub repeats_end : (t : List Entry) (u : ℤ) → repeats_in t u (entries_of l) ≡ false
+  unfolding repeats_in
+  repeats_end t u = rw (short l (omega arith))
 
 -- ---- the loops' beginnings, and the definitions opened once
-pub offset_start : (l : List ℤ) (u : ℤ) → 1 < length l → offset_from (get_or l 1 (pos 0)) (entries_of l) u ≡ offset_at (entries_of l) u
-unfolding offset_at
-offset_start l u h = rw (entries_step l 0 h)
-
-pub offset_none : (l : List ℤ) (u : ℤ) → length l < 2 → offset_at (entries_of l) u ≡ pos 0
-unfolding offset_at offset_from
-offset_none l u h = rw (short l (omega arith))
+-- the first offset, 0 where there is none
+pub offset_start : (l : List ℤ) (u : ℤ) → offset_from (get_or l 1 (pos 0)) (entries_of l) u ≡ offset_at (entries_of l) u
+unfolding offset_at entries_of
+offset_start [] u = refl
+offset_start (m ∷ []) u = refl
+offset_start (m ∷ o ∷ l) u = refl
 
 pub local_is : (t : List Entry) (u : ℤ) → local_at t u ≡ u +ℤ offset_at t u
 unfolding local_at

@@ -10,10 +10,7 @@ const DAY: i64 = 1440;
 fn is_in(low: i64, high: i64, z: i64) -> bool
     ensures { result ≡ (le_z low z && le_z z high) }
 {
-    if low <= z {
-        return z <= high;
-    }
-    false
+    (low..=high).contains(&z)
 }
 
 pub fn is_minute(minute: i64) -> bool
@@ -38,13 +35,11 @@ fn are_entries(table: &[i64]) -> bool
     ensures { result ≡ entries_fit (negsuc 0) (entries_of table.now) }
 {
     let mut last: i64 = -1;
-    let mut i = 0;
-    while i + 1 < table.len() {
-        if !is_entry(last, table[i], table[i + 1]) {
+    for entry in table.chunks_exact(2) {
+        if !is_entry(last, entry[0], entry[1]) {
             return false;
         }
-        last = table[i];
-        i += 2;
+        last = entry[0];
     }
     true
 }
@@ -79,14 +74,9 @@ fn in_force(minute: i64, offset: i64, utc: i64, held: i64) -> i64
 pub fn offset_at(table: &[i64], utc: i64) -> i64
     ensures { result ≡ offset_at (entries_of table.now) utc }
 {
-    if table.len() < 2 {
-        return 0;
-    }
-    let mut held = table[1];
-    let mut i = 0;
-    while i + 1 < table.len() {
-        held = in_force(table[i], table[i + 1], utc, held);
-        i += 2;
+    let mut held = table.get(1).copied().unwrap_or(0);
+    for entry in table.chunks_exact(2) {
+        held = in_force(entry[0], entry[1], utc, held);
     }
     held
 }
@@ -127,12 +117,10 @@ pub fn again_of(table: &[i64], utc: i64, local: i64) -> i32
     requires { SmallNumbers (entries_of table.now) × (mag local < 2 ^ 41) × (local ≡ local_at (entries_of table.now) utc) }
     ensures { result ≡ again_of (entries_of table.now) utc }
 {
-    let mut i = 0;
-    while i + 1 < table.len() {
-        if repeats(table, utc, local, table[i + 1]) {
+    for entry in table.chunks_exact(2) {
+        if repeats(table, utc, local, entry[1]) {
             return 1;
         }
-        i += 2;
     }
     0
 }
