@@ -15,11 +15,9 @@ returns-in_err-sign c = rw (handed_on c.from_residual.ensures c.in_err-sign.was)
 pub returns-then-code-eq0 : goal.returns-then-code-eq0
 returns-then-code-eq0 c = refuses (refused_now (comparison_none _ _ _ (accepted_by c.expression.ensures c.in_ok-sign.was) c.comparison_code-code.ensures c.if-code-eq0.true))
 
-pub expression-second-requires : goal.expression-second-requires
-expression-second-requires c = let a = accepted_by c.expression.ensures c.in_ok-sign.was in
-record { declared = c.requires.declared; room = room_next (room_after c.requires.room (expression_grows c.requires.declared _ c.requires.room) a) a.stands }
-
--- MANUAL goal expression-second-requires; goals: ['expression-requires', 'branch-sign-requires', 'enum_known-sign', 'enum_known-from_residual', 'from_residual-requires', 'shape_of-out-in_err-sign', 'returns-in_err-sign', 'comparison_code-code-requires', 'shape_of-out-then-code-eq0', 'returns-then-code-eq0', 'expression-requires-2', 'branch-behind-requires', 'enum_known-behind', 'enum_known-from_residual-in-Break-branch-2', 'from_residual-requires-in_err-behind', 'shape_of-out-in_err-behind', 'returns-in_err-behind', 'put_byte-requires', 'shape_of-out', 'returns']
+pub expression-requires-2 : goal.expression-requires-2
+expression-requires-2 c = let a = accepted_by c.expression.ensures c.in_ok-sign.was in
+    record { declared = c.requires.declared; room = room_next (room_after c.requires.room (expression_grows c.requires.declared _ c.requires.room) a) a.stands }
 
 pub returns-in_err-behind : goal.returns-in_err-behind
 returns-in_err-behind c = rw (handed_on c.from_residual-in_err-behind.ensures c.in_err-behind.was) (passed c.expression-2.ensures c.in_err-behind.was (second_refuses _ _ _ (accepted_by c.expression.ensures c.in_ok-sign.was) c.comparison_code-code.ensures c.if-code-eq0.false))
