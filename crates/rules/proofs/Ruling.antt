@@ -123,7 +123,7 @@ module _ {ts : List Timer} {text starts ends : List ℕ} {count known₀ at to :
   come = let e : 65 - done ≡ suc (64 - done) = omega (arith, x.fuel, d.few) in x.same ∙ ap (λ (f : ℕ). rules_from f ts sc x.rules a) e
 
   pub ruling_fault : {out' : List ℕ} {r : Step} {e : Refusal} → r ≡ Err e → (token_at text a ≡ fault (place_of e)) × (e ≡ NoToken (place_of e)) → Answer out' r
-  ruling_fault {q = q} g e = refuses (g ∙ ap (λ (y : ℕ). Err e) e.1) (refused_now (come ∙ rules_fault (64 - done) ts sc x.rules a e.0)).looked
+  ruling_fault g f = refuses (g ∙ ap Err f.1) (refused_now (come ∙ rules_fault (64 - done) ts sc x.rules a f.0)).looked
 
   module _ {k s n : ℕ} (f : Found text a k s n) where
     -- no rule follows

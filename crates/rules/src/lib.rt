@@ -45,14 +45,8 @@ fn rule(
     if lexer::is_over_long(start, end) {
         return Err(Refusal::TooMany(start));
     }
-    let found = lexer::find(
-        text,
-        starts,
-        ends,
-        names.count,
-        lexer::name(text, start, end),
-    );
-    let Some(id) = found else {
+    let name = lexer::name(text, start, end);
+    let Some(id) = lexer::find(text, starts, ends, names.count, name) else {
         return Err(Refusal::WrongName(start));
     };
     if first <= id {
@@ -128,7 +122,7 @@ fn rules_in(
                 number: known as usize,
             });
         }
-        let one = rule(
+        let b = rule(
             text,
             starts,
             ends,
@@ -140,10 +134,7 @@ fn rules_in(
             upto,
             out,
             t,
-        );
-        let Ok(b) = one else {
-            return one;
-        };
+        )?;
         let more = expressions::scope::ruled(Names { count, known }, b.number);
         let names = Names {
             count,

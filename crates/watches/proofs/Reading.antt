@@ -112,7 +112,7 @@ module _ {sc : Scope} {at a k s n count : ℕ} (x : Reading sc at a k s n count)
         more = x.same ∙ (some_left ∙ watches_more sc x.done a x.stands.read (told x.stands watch_word i) (watch_limit - (count + 1)) e)
 
         pub reading_fault : {r : Step} {e : Refusal} → r ≡ Err e → (token_at sc.text m ≡ fault (place_of e)) × (e ≡ NoToken (place_of e)) → Answer r
-        reading_fault {q = q} d f = refuses (d ∙ ap (λ (y : ℕ). Err e) f.1) (refused_now (more ∙ watches_fault sc (x.done ++ (w ∷ [])) m (watch_limit - (count + 1)) f.0)).looked
+        reading_fault d f = refuses (d ∙ ap Err f.1) (refused_now (more ∙ watches_fault sc (x.done ++ (w ∷ [])) m (watch_limit - (count + 1)) f.0)).looked
 
         pub reading_more : length sc.names ≤ 64 → {k2 s2 n2 : ℕ} → Found sc.text m k2 s2 n2 → Reading sc at m k2 s2 n2 (count + 1)
         reading_more few f = record {

@@ -1,6 +1,6 @@
 -- What the contracts of this crate cite. Assumes nothing.
 use Rattle.std.specs.Prelude.{cond, ℕ, ◌≤◌, List, [], ◌∷◌, eqb, length}
-use Rattle.limits.specs.Limits.{case_limit, not_allowed, wrong_rule}
+use Rattle.limits.specs.Limits.{case_limit}
 use Rattle.semantics.specs.Program.{Rule, all_true}
 use Rattle.grammar.specs.Inner.Bytes.{bytes_r}
 use Rattle.expressions.specs.declared.scope.Names.{Names}
