@@ -275,9 +275,8 @@ pub fn line_byte(cells: &mut [i32], s: Line, b: u8) -> Line
 fn put_long_row(cells: &mut [i32]) -> usize
     ensures { (result ≡ 65) × (cells.new ≡ sets cells.old 0 long_row) }
 {
-    for i in 0..LONG_ROW {
-        store(cells, i, 0);
-    }
+    let count = LONG_ROW.min(cells.len());
+    cells[..count].fill(0);
     LONG_ROW
 }
 

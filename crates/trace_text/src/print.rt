@@ -41,11 +41,10 @@ fn put_decimal(out: &mut [u8], at: usize, z: i32) -> usize
 fn put_bytes(out: &mut [u8], at: usize, word: &[u8]) -> usize
     ensures { Put out.old at word.now out.new result }
 {
-    let mut place = at.min(out.len());
-    for b in word {
-        place = put_byte(out, place, *b);
-    }
-    place
+    let place = at.min(out.len());
+    let count = word.len().min(out.len() - place);
+    out[place..place + count].copy_from_slice(&word[..count]);
+    place + count
 }
 
 // The part of the text from `start` to `end`, after a space.

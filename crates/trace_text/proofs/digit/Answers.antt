@@ -1,5 +1,4 @@
 use Rattle.std.proofs.Common.{ℕ, ◌%◌, sym, ap, ◌∙◌}
-use borrow.Author.Tests.{not-true, not-false}
 use Rattle.trace_text.specs.Inner.Stages.{longer_by, digit_after}
 use Rattle.trace_text.proofs.Decimals.{digit_low}
 use Rattle.trace_text.proofs.digit.Goals as goal

@@ -1,4 +1,4 @@
-use Rattle.std.proofs.Common.{sym, ◌∙◌, arith}
+use Rattle.std.proofs.Common.{sym, ◌∙◌}
 use Rattle.trace_text.proofs.Puts.{put_clip}
 use Rattle.trace_text.proofs.Chunks.{divide_all, divide_rows, divide_byte, gone_over}
 use Rattle.trace_text.proofs.split_chunk.Goals as goal

@@ -1,12 +1,11 @@
-use Rattle.std.proofs.Common.{◌≡◌, ℕ, [], ◌∷◌, ◌++◌, length, drop, take, get_or, map, refl, ap, sym, ◌∙◌, add-one, drop-cons, drop_of_length-le, arith}
+use Rattle.std.proofs.Common.{◌≡◌, [], ◌∷◌, length, drop, take, add-one, drop-cons, drop_of_length-le, arith}
 use Rattle.std.specs.List.{zip}
 use Rattle.std.proofs.lemmas.List.{length_push}
 use Rattle.std.proofs.lemmas.Iterator.{YieldsList-from_slice, YieldsList-from_zip, YieldsList-from_take}
 use Rattle.std.proofs.lemmas.Iterator.Consumers.{YieldsList-turn, YieldsList-end}
 use Rattle.lexer.specs.Bytes.{part}
-use Rattle.trace_text.specs.Output.{spaced}
 use Rattle.trace_text.proofs.Puts.{put_clip, putting, putting_next, putting_done}
-use Rattle.trace_text.proofs.Printing.{spelled, names_zip}
+use Rattle.trace_text.proofs.Printing.{names_zip}
 use Rattle.trace_text.proofs.print.put_names.Goals as goal
 
 pub loop-start-init : goal.loop-start-init

@@ -1,7 +1,7 @@
-use Rattle.std.proofs.Common.{◌∷◌, pos, get_or, map, add-one, drop-cons, drop_of_length-le, arith, rules, w32}
+use Rattle.std.proofs.Common.{◌∷◌, pos, get_or, add-one, drop-cons, drop_of_length-le, arith, rules, w32}
 use mir.Val.{SFits}
 use Rattle.arith.proofs.Laws.{same32}
-use Rattle.trace_text.specs.Output.{decimal_of, spaced}
+use Rattle.trace_text.specs.Output.{decimal_of}
 use Rattle.trace_text.proofs.Lengths.{values_more}
 use Rattle.trace_text.proofs.Puts.{put_clip, put_then, putting_next, putting_done}
 use Rattle.trace_text.proofs.print.put_values.Goals as goal
