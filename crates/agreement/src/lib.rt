@@ -19,6 +19,7 @@ fn compare_tokens(text: &[u8], from: usize, to: usize, at: usize) -> Step
 {
     let mut a = from;
     let mut b = at;
+    // a `while`: both places move on by a token's length, which is known when it is read
     while a < to {
         let wanted = lexer::token_at(text, a);
         let Step::Done(token) = wanted else {
@@ -123,17 +124,13 @@ pub fn compare_lists(text: &[u8], from: &[usize], to: &[usize], count: usize, at
     requires spans_read { SpansRead text.now from.now to.now count }
     ensures { (cases : List Spanned) → spans_of cases ≡ spans_in from.now to.now count → compared_of result ≡ parts_from text.now cases at }
 {
-    let mut i = 0;
     let mut a = at;
-    while i < count {
-        let first = from[i];
-        let last = to[i];
-        let part = compare_part(text, first, last, a);
+    for i in 0..count {
+        let part = compare_part(text, from[i], to[i], a);
         let Step::Done(n) = part else {
             return part;
         };
-        i += 1;
-        let sign = compare_sign(text, separator(i, count), n.at);
+        let sign = compare_sign(text, separator(i + 1, count), n.at);
         let Step::Done(m) = sign else {
             return sign;
         };
