@@ -1,13 +1,14 @@
 -- Laws of the names in use: ids are below the count, and a bit tells whether a current value may be used. Assumes nothing.
 use mathlib.Core.Path.{◌≡◌, refl, ap, sym, ◌∙◌}
 use mathlib.Core.List.{List, [], ◌∷◌}
-use mathlib.Core.Bool.{true, false}
+use mathlib.Core.Bool.{Bool, true, false}
 use mathlib.Core.Option.{some}
 use Prim.Native.Nat.{ℕ, zero, suc, ◌+◌, ◌≤◌, ◌<◌}
 use native.Mathlib.Numerals.{add-one}
 use native.Mathlib.Omega.{arith}
 use lib.Seq.{drop-cons}
 use lib.ListN.{length, get_or, set, drop, drop_of_length-le}
+use Rattle.std.specs.List.{list_all, range_with_len}
 use Rattle.arith.specs.Inner.Flags.{flags_of}
 use Rattle.arith.proofs.Flags.{length_flags}
 use Rattle.semantics.specs.Program.{all_true, Timer, timers_known}
@@ -35,22 +36,10 @@ counted_from text (s ∷ starts) (e ∷ ends) (suc n) hs he = ap suc (counted_fr
 pub names_counted : (text starts ends : List ℕ) (n : ℕ) → Table starts ends n → length (table_names text starts ends n) ≡ n
 names_counted text starts ends n t = counted_from text starts ends n t.in_starts t.in_ends
 
--- all known, from the name i on
-module _ (known n i : ℕ) where
-  pub all_next : i < n → get_or (flags_of n known) i false ≡ true → all_true (drop (i + 1) (flags_of n known)) ≡ all_true (drop i (flags_of n known))
-  all_next h e =
-      let l : i < length (flags_of n known) = omega (arith, length_flags n known) in
-      rw (drop-cons (flags_of n known) i false l, e, add-one i)
-
-  pub all_stop : i < n → get_or (flags_of n known) i false ≡ false → false ≡ all_true (drop i (flags_of n known))
-  all_stop h e =
-      let l : i < length (flags_of n known) = omega (arith, length_flags n known) in
-      rw (drop-cons (flags_of n known) i false l, e)
-
-  pub all_end : n ≤ i → true ≡ all_true (drop i (flags_of n known))
-  all_end h =
-      let l : length (flags_of n known) ≤ i = omega (arith, length_flags n known) in
-      rw (drop_of_length-le (flags_of n known) l)
+-- flag by flag from a place on
+pub all_counted : (flags : List Bool) (a m : ℕ) → a + m ≡ length flags → list_all (λ i. get_or flags i false) (range_with_len a m) ≡ all_true (drop a flags)
+all_counted flags a zero e = rw (drop_of_length-le flags {i = a} (omega arith))
+all_counted flags a (suc m) e = rw (drop-cons flags a false (omega arith), all_counted flags (a + 1) m (omega arith), add-one)
 
 pub id_counted : (text starts ends : List ℕ) (n : ℕ) (w : List ℕ) (i : ℕ) → id_of (table_names text starts ends n) w ≡ some i → i < n
 id_counted text starts ends n w i e = omega (arith, id_of_lem (table_names text starts ends n) w i e, names_length text starts ends n)

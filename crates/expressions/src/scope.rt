@@ -48,13 +48,5 @@ pub fn all_known(names: Names) -> bool
     requires { names.count ≤ name_limit }
     ensures { result ≡ all_true (flags_of names.count names.known) }
 {
-    let mut i = 0;
-    while i < names.count {
-        if is_known(names, i) {
-            i += 1;
-        } else {
-            return false;
-        }
-    }
-    true
+    (0..names.count).all(|id| is_known(names, id))
 }

@@ -118,7 +118,7 @@ pub fn pack(number: u8, place: usize, count: u64) -> u64
     requires { (place < 2 ^ 32) × (count < 2 ^ 24) }
     ensures { result ≡ packed number place count }
 {
-    number as u64 * NUMBER_FACTOR + place as u64 * PLACE_FACTOR + count
+    u64::from(number) * NUMBER_FACTOR + place as u64 * PLACE_FACTOR + count
 }
 
 pub fn pack_response(r: Response) -> u64
@@ -133,22 +133,13 @@ pub fn pack_response(r: Response) -> u64
     }
 }
 
-pub fn least(a: usize, b: usize) -> usize
-    ensures { result ≡ min a b }
-{
-    if a < b {
-        return a;
-    }
-    b
-}
-
 // A number of the memory, at most `most`.
 fn cell(memory: &[i32], i: usize, most: usize) -> usize
     requires { i < length memory.now }
     ensures { result ≡ clipped memory.now i most }
 {
     let n = arith::count(memory[i]);
-    least(n as usize, most)
+    (n as usize).min(most)
 }
 
 pub fn checkpoint_in(memory: &[i32]) -> Checkpoint
@@ -222,12 +213,6 @@ fn number(x: usize) -> i32
     x as i32
 }
 
-fn flag(b: bool) -> i32
-    ensures { result ≡ pos (flag_of b) }
-{
-    if b { 1 } else { 0 }
-}
-
 pub fn store_checkpoint(memory: &mut [i32], p: Checkpoint)
     requires memory_len { length memory.old ≡ paused_length }
     requires small_checkpoint { SmallCheckpoint p }
@@ -235,12 +220,12 @@ pub fn store_checkpoint(memory: &mut [i32], p: Checkpoint)
 {
     let cells = [
         number(p.phase),
-        number(p.number as usize),
+        i32::from(p.number),
         number(p.place),
         number(p.steps),
         number(p.held),
-        flag(p.picked),
-        flag(p.passing),
+        i32::from(p.picked),
+        i32::from(p.passing),
     ];
     lists::store(memory, CHECKPOINT, &cells);
 }

@@ -15,9 +15,8 @@ use Rattle.scan.specs.declared.Scanned.TheVariants as R
 use Rattle.scan.specs.Services.{AfterScan, scan_of}
 use Rattle.scan.specs.Results.{after_scan}
 use Rattle.leb128.proofs.Stores.{drop_clip}
-use Rattle.replay.specs.declared.Cursor.{Cursor}
 use Rattle.replay.specs.Replay.{rows_of}
-use Rattle.replay.specs.Inner.Records.{Records, records, record_scan, scan_rows, RowScanned}
+use Rattle.replay.specs.Inner.Records.{Records, records, record_scan, scan_rows}
 
 -- ---- parts that are clipped
 
@@ -37,48 +36,46 @@ take_clipped from n end l e = by (leb n (length (drop from l))) (leb-true n (len
 
 -- ---- one scan
 
-module _ (image : List ℕ) (cells : List ℤ) (lengths : List ℕ) (c : Cursor) (end : ℕ) (s s₁ : State) (numbers numbers₁ steps steps₁ : List ℕ) (trace : List ℤ)
-    (e : end ≡ min (c.cell + get_or lengths c.row 0) (length cells)) where
-  row_is : take (end - c.cell) (drop c.cell cells) ≡ take (get_or lengths c.row 0) (drop c.cell cells)
-  row_is = take_clipped c.cell (get_or lengths c.row 0) end cells e
-
-  pub row_done : (n : ℕ) (trace₁ : List ℤ) (place : ℕ) → after_scan (R.Done n) s₁ ≡ scan_of image s (take (end - c.cell) (drop c.cell cells)) → numbers₁ ≡ set numbers c.row 0
-      → steps₁ ≡ set steps c.row n → trace₁ ≡ sets trace c.place s₁ → place ≡ min (c.place + length s₁) (length trace)
-      → RowScanned image cells lengths c (record { row = c.row + 1; cell = end; place = place }) (records s numbers steps trace c.place) (records s₁ numbers₁ steps₁ trace₁ place)
+module _ (image : List ℕ) (row : List ℤ) (i p : ℕ) (s s₁ : State) (numbers numbers₁ steps steps₁ : List ℕ) (trace : List ℤ) where
+  pub row_done : (n : ℕ) (trace₁ : List ℤ) (place : ℕ) → after_scan (R.Done n) s₁ ≡ scan_of image s row → numbers₁ ≡ set numbers i 0
+      → steps₁ ≡ set steps i n → trace₁ ≡ sets trace p s₁ → place ≡ min (p + length s₁) (length trace)
+      → records s₁ numbers₁ steps₁ trace₁ place ≡ record_scan i (scan_of image s row) (records s numbers steps trace p)
   unfolding record_scan
-  row_done n trace₁ place f h k t l = record { row = refl; cell = e; so = rw (← row_is, ← f, h, k, t, l) }
+  row_done n trace₁ place f h k t l = rw (← f, h, k, t, l)
 
-  pub row_refused : (number at n : ℕ) → after_scan (R.Refused number at n) s₁ ≡ scan_of image s (take (end - c.cell) (drop c.cell cells)) → numbers₁ ≡ set numbers c.row number
-      → steps₁ ≡ set steps c.row n → c.place ≤ length trace
-      → RowScanned image cells lengths c (record { row = c.row + 1; cell = end; place = c.place }) (records s numbers steps trace c.place) (records s₁ numbers₁ steps₁ trace c.place)
+  pub row_refused : (number at n : ℕ) → after_scan (R.Refused number at n) s₁ ≡ scan_of image s row → numbers₁ ≡ set numbers i number
+      → steps₁ ≡ set steps i n → p ≤ length trace
+      → records s₁ numbers₁ steps₁ trace p ≡ record_scan i (scan_of image s row) (records s numbers steps trace p)
   unfolding record_scan
   row_refused number at n f h k l =
-      let q : min (c.place + 0) (length trace) ≡ c.place = omega arith in
-      record { row = refl; cell = e; so = rw (← row_is, ← f, h, k, q) }
+      let q : min (p + 0) (length trace) ≡ p = omega arith in
+      rw (← f, h, k, q)
 
 -- ---- the rows that are left
 
--- the rows before the cursor are scanned; what is left to do makes the whole
-pub record Scanning (image : List ℕ) (cells : List ℤ) (lengths : List ℕ) (first : Records) (c : Cursor) (m : Records) : Type 0 where
-  pub inside : c.cell ≤ length cells
+-- the first i rows, which are the cells before `cell`, are scanned; what is left to do makes the whole
+pub record Scanning (image : List ℕ) (cells : List ℤ) (lengths : List ℕ) (first : Records) (i cell : ℕ) (m : Records) : Type 0 where
+  pub inside : cell ≤ length cells
   pub room : m.place ≤ length m.trace
-  pub so : scan_rows image c.row (rows_of (drop c.cell cells) (drop c.row lengths)) m ≡ scan_rows image 0 (rows_of cells lengths) first
+  pub so : scan_rows image i (rows_of (drop cell cells) (drop i lengths)) m ≡ scan_rows image 0 (rows_of cells lengths) first
 
 recorded_room : (i : ℕ) (a : AfterScan) (m : Records) → (record_scan i a m).place ≤ length (record_scan i a m).trace
 unfolding record_scan
 recorded_room i a m = simp length-sets (omega arith)
 
-module _ {image : List ℕ} {cells : List ℤ} {lengths : List ℕ} {first : Records} {c : Cursor} {m : Records} (g : Scanning image cells lengths first c m) where
-  pub scanning_goes : (next : Cursor) (m₁ : Records) → c.row < length lengths → RowScanned image cells lengths c next m m₁ → Scanning image cells lengths first next m₁
-  scanning_goes next m₁ h r =
-      let n = get_or lengths c.row 0 in
-      let rest : drop next.cell cells ≡ drop n (drop c.cell cells) = rw r.cell (drop_clip (c.cell + n) cells ∙ sym (drop-drop n c.cell cells)) in
-      let more : drop (c.row + 1) lengths ≡ drop (suc c.row) lengths = ap (λ (j : ℕ). drop j lengths) (add-one c.row) in
+module _ {image : List ℕ} {cells : List ℤ} {lengths : List ℕ} {first : Records} {i cell : ℕ} {m : Records} (g : Scanning image cells lengths first i cell m) where
+  pub scanning_goes : (end : ℕ) (m₁ : Records) → i < length lengths → end ≡ min (cell + get_or lengths i 0) (length cells)
+      → m₁ ≡ record_scan i (scan_of image m.state (take (end - cell) (drop cell cells))) m → Scanning image cells lengths first (i + 1) end m₁
+  scanning_goes end m₁ h e r =
+      let n = get_or lengths i 0 in
+      let row : take (end - cell) (drop cell cells) ≡ take n (drop cell cells) = take_clipped cell n end cells e in
+      let rest : drop end cells ≡ drop n (drop cell cells) = rw e (drop_clip (cell + n) cells ∙ sym (drop-drop n cell cells)) in
+      let more : drop (i + 1) lengths ≡ drop (suc i) lengths = ap (λ (j : ℕ). drop j lengths) (add-one i) in
       record {
-        inside = omega (arith, r.cell);
-        room = rw r.so (recorded_room c.row _ m);
-        so = rw (r.so, rest, r.row, more) (rw (drop-cons lengths c.row 0 h) at g.so);
+        inside = omega arith;
+        room = rw r (recorded_room i _ m);
+        so = rw (r, row, rest, more) (rw (drop-cons lengths i 0 h) at g.so);
       }
 
-  pub scanning_ends : length lengths ≤ c.row → m ≡ scan_rows image 0 (rows_of cells lengths) first
-  scanning_ends h = rw (drop_of_length-le lengths {i = c.row} h) at g.so
+  pub scanning_ends : length lengths ≤ i → m ≡ scan_rows image 0 (rows_of cells lengths) first
+  scanning_ends h = rw (drop_of_length-le lengths {i = i} h) at g.so

@@ -3,11 +3,11 @@
 
 ghost use Rattle.std.specs.Prelude.{◌≡◌, List, ℕ, ◌≤◌, length, set};
 ghost use Rattle.limits.specs.Limits.{state_limit, stack_limit};
-ghost use Rattle.scan.specs.Services.{start_of};
+ghost use Rattle.scan.specs.Services.{start_of, scan_of};
 ghost use Rattle.before.specs.Inner.Memory.{Scratch};
 ghost use Rattle.replay.specs.Replay.{rows_of, replay_rows, replay_of};
 ghost use Rattle.replay.specs.Results.{lent, after_replay, ShownBy, ReplayedWithin};
-ghost use Rattle.replay.specs.Inner.Records.{records, scan_rows, KnownBy, RecordWithin, RowScanned};
+ghost use Rattle.replay.specs.Inner.Records.{records, record_scan, scan_rows, KnownBy};
 
 use machine::lists;
 use scan::Scanned;
@@ -21,34 +21,17 @@ pub enum Replayed {
     Refused(u8, usize),
 }
 
-// Where a replay stands: the next row, its first cell, and the place behind the trace so far.
-#[derive(Clone, Copy)]
-struct Cursor {
-    row: usize,
-    cell: usize,
-    place: usize,
-}
-
-// A refusal's number at a row's place, where there is room for it.
-fn store_number(numbers: &mut [u8], i: usize, number: u8)
-    ensures { numbers.new ≡ set numbers.old i number }
+// One element, where there is room for it.
+fn store<T: Copy>(records: &mut [T], i: usize, x: T)
+    ensures { records.new ≡ set records.old i x }
 {
-    if i < numbers.len() {
-        numbers[i] = number;
+    if i < records.len() {
+        records[i] = x;
     }
 }
 
-// A scan's steps, likewise.
-fn store_steps(steps: &mut [usize], i: usize, n: usize)
-    ensures { steps.new ≡ set steps.old i n }
-{
-    if i < steps.len() {
-        steps[i] = n;
-    }
-}
-
-// The scan of the next row of an image known to be sound, whose shape was read, with its records: number and steps at the row's place, the state of an
-// accepted one behind the trace.
+// The scan of row i of an image known to be sound, whose shape was read, with its records: number and steps at the row's place, the state of an
+// accepted one behind the trace. The place behind the trace then.
 fn scan_row(
     image: &[u8],
     m: Measured,
@@ -57,44 +40,29 @@ fn scan_row(
     work: &mut [i32],
     vals: &mut [i32],
     state: &mut [i32],
-    cells: &[i32],
-    lengths: &[usize],
-    cursor: Cursor,
+    row: &[i32],
+    i: usize,
     numbers: &mut [u8],
     steps: &mut [usize],
     trace: &mut [i32],
-) -> Cursor
-    requires record_within { RecordWithin cursor cells.now lengths.now trace.old }
+    place: usize,
+) -> usize
+    requires place_in_bounds { place ≤ length trace.old }
     requires known_by { KnownBy image.now m low.now high.now work.old vals.old state.old }
-    ensures { RowScanned image.now cells.now lengths.now cursor result
-        (records state.old numbers.old steps.old trace.old cursor.place)
-        (records state.new numbers.new steps.new trace.new result.place) }
+    ensures { records state.new numbers.new steps.new trace.new result
+        ≡ record_scan i (scan_of image.now state.old row.now)
+        (records state.old numbers.old steps.old trace.old place) }
 {
-    let row = cursor.row;
-    let cell = cursor.cell;
-    let place = cursor.place;
-    let end = lists::behind(cell, lengths[row], cells.len());
-    let next = row + 1;
-    let scanned = scan::scan_known(image, m, state, &cells[cell..end], low, high, work, vals);
-    match scanned {
+    match scan::scan_known(image, m, state, row, low, high, work, vals) {
         Scanned::Done(n) => {
-            store_number(numbers, row, 0);
-            store_steps(steps, row, n);
-            let added = lists::store(trace, place, state);
-            Cursor {
-                row: next,
-                cell: end,
-                place: added,
-            }
+            store(numbers, i, 0);
+            store(steps, i, n);
+            lists::store(trace, place, state)
         }
         Scanned::Refused(number, _, reached) => {
-            store_number(numbers, row, number);
-            store_steps(steps, row, reached);
-            Cursor {
-                row: next,
-                cell: end,
-                place: place,
-            }
+            store(numbers, i, number);
+            store(steps, i, reached);
+            place
         }
     }
 }
@@ -121,17 +89,17 @@ fn scan_rows(
         ≡ scan_rows image.now 0 (rows_of cells.now lengths.now)
         (records state.old numbers.old steps.old trace.old at) }
 {
-    let mut cursor = Cursor {
-        row: 0,
-        cell: 0,
-        place: at,
-    };
-    while cursor.row < lengths.len() {
-        cursor = scan_row(
-            image, m, low, high, work, vals, state, cells, lengths, cursor, numbers, steps, trace,
+    let mut cell = 0;
+    let mut place = at;
+    for (i, length) in lengths.iter().enumerate() {
+        let end = lists::behind(cell, *length, cells.len());
+        let row = &cells[cell..end];
+        place = scan_row(
+            image, m, low, high, work, vals, state, row, i, numbers, steps, trace, place,
         );
+        cell = end;
     }
-    cursor.place
+    place
 }
 
 // A whole image: it is checked and its shape is read once; then start and the rows.

@@ -312,7 +312,7 @@ fn advance_scan(paused: &mut [i32], image: &[u8], p: Checkpoint, steps: usize) -
     if image.len() - base <= p.place {
         return 0;
     }
-    let n = paused::least(steps, limits::IMAGE_LIMIT);
+    let n = steps.min(limits::IMAGE_LIMIT);
     if size == layout.names {
         return advance_untimed(paused, &image[base..], p, layout, n);
     }

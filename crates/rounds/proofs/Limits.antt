@@ -4,7 +4,6 @@ use native.Mathlib.Omega.{arith}
 use mathlib.Core.Path.{◌≡◌, refl, sym, ap, ◌∙◌}
 use mathlib.Core.Bool.{Bool, true, false}
 use mathlib.Core.List.{List, [], ◌∷◌}
-use lib.Dec.{leb}
 use lib.ListN.{length, get_or, take, drop, length-drop}
 use lib.Seq.{take_all}
 use borrow.Author.Tests.{lt-ltb, le-ltb}
@@ -14,14 +13,6 @@ use Rattle.rounds.specs.Together.{Together, rounded, visits_of, call_of}
 
 never : {X : Type 0} → ◌≡◌ {A = Bool} false true → X
 never e = let z : ◌≡◌ {A = ℕ} 0 1 = cc in absurd (omega arith)
-
--- a share
-
-pub share_low : (share : ℕ) → share < 1 → false ≡ share_in_limit share
-share_low share h = rw (le-ltb 0 share (omega arith))
-
-pub share_most : (share : ℕ) → 1 ≤ share → leb share 65536 ≡ share_in_limit share
-share_most share h = rw (lt-ltb 0 share h)
 
 -- a table
 

@@ -1,12 +1,12 @@
 -- Visits to the sets of a table, one after the other. Assumes nothing.
-use Prim.Native.Nat.{ℕ, suc, ◌+◌, ◌-◌, ◌≤◌, ◌<◌, min}
+use Prim.Native.Nat.{ℕ, suc, ◌+◌, ◌-◌, ◌≤◌, min}
 use native.Mathlib.Omega.{arith}
-use mathlib.Core.Path.{◌≡◌, refl, sym, ap, ◌∙◌}
+use mathlib.Core.Path.{◌≡◌, sym, ap, ◌∙◌}
 use mathlib.Core.List.{List, [], ◌∷◌, ◌++◌, append-nil}
 use lib.IntN.{ℤ}
 use lib.ListN.{length, get_or, take, drop, set, length-append, length-take, length-drop, drop_of_length-le}
 use lib.Seq.{sets, take_all, take-length, take-append_seam, drop-append_seam}
-use borrow.Rule.Slice.PartMut.{mid_of, post_of, put_mid, same_len_mid}
+use borrow.Rule.Slice.PartMut.{mid_of, post_of, put_mid}
 use Rattle.limits.specs.Limits.{paused_length}
 use Rattle.semantics.specs.Formula.{State}
 use Rattle.paused.specs.declared.Response.{Response}
@@ -16,15 +16,7 @@ use Rattle.leb128.proofs.Stores.{take_clip, drop_clip}
 use Rattle.rounds.specs.Visits.{visit_of, round_from}
 use Rattle.rounds.specs.Together.{answers_of, Together, together, visits_of}
 
--- ---- parts that are clipped
-
 -- ---- the table
-
-pub ended : (table images : List ℕ) (paused states : List ℤ) (answers : List ℕ) (i : ℕ) → length table < 3 → together paused states answers ≡ visits_of table images i (together paused states answers)
-ended [] images paused states answers i h = refl
-ended (a ∷ []) images paused states answers i h = refl
-ended (a ∷ (b ∷ [])) images paused states answers i h = refl
-ended (a ∷ (b ∷ (c ∷ table))) images paused states answers i h = let f : ⊥ = omega arith in absurd f
 
 -- the first set, then the others
 pub turned : (table images : List ℕ) (paused states : List ℤ) (answers : List ℕ) (i : ℕ) → 3 ≤ length table
@@ -58,12 +50,6 @@ module _ (p : ℕ) (l vs : List ℤ) (e : length vs ≡ p) where
       let z : post_of p (length (vs ++ drop p l) - p) (vs ++ drop p l) ≡ [] =
       drop_of_length-le (drop p (vs ++ drop p l)) {i = length (vs ++ drop p l) - p} (omega (arith, length-drop p (vs ++ drop p l))) in
       rw (q, z) (ap (λ (x : List ℤ). vs ++ x) (append-nil ys))
-
-pub lent_long : (n k : ℕ) (l vs ys : List ℤ) → n ≡ min k (length l) → length vs ≡ length (take n l) → length ys ≡ length (mid_of n (length (vs ++ drop n l) - n) (vs ++ drop n l))
-    → length (put_mid n (length (vs ++ drop n l) - n) (vs ++ drop n l) ys) ≡ length l
-lent_long n k l vs ys e v y =
-    same_len_mid n (length (vs ++ drop n l) - n) (vs ++ drop n l) ys y
-    ∙ length-append vs (drop n l) ∙ omega (arith, length-take n l, length-drop n l)
 
 module _ (table images : List ℕ) (paused states : List ℤ) (answers : List ℕ) (i : ℕ) (h : 3 ≤ length table) (p b n : ℕ) (ep : p ≡ min paused_length (length paused))
     (eb : b ≡ min (get_or table 0 0) (length images)) (en : n ≡ min (get_or table 1 0) (length states)) where

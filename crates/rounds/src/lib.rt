@@ -15,10 +15,7 @@ use paused::Response;
 fn share_fits(share: usize) -> bool
     ensures { result ≡ share_in_limit share }
 {
-    if share < 1 {
-        return false;
-    }
-    share <= limits::SHARE_LIMIT
+    (1..=limits::SHARE_LIMIT).contains(&share)
 }
 
 // How many steps an instalment did.
@@ -27,9 +24,7 @@ fn steps_in(response: Response) -> usize
     ensures { (result ≡ steps_in response) × (result ≤ image_limit) }
 {
     match response {
-        Response::Done(n) => n,
-        Response::Refused(_, _, n) => n,
-        Response::Unfinished(n) => n,
+        Response::Done(n) | Response::Refused(_, _, n) | Response::Unfinished(n) => n,
         Response::Idle => 0,
     }
 }
@@ -77,22 +72,14 @@ pub fn visit(paused: &mut [i32], image: &[u8], state: &mut [i32], share: usize) 
     }
 }
 
-// A number at a place of the answers, where there is room for it.
-fn store(answers: &mut [u64], i: usize, n: u64)
-    ensures { answers.new ≡ set answers.old i n }
-{
-    if i < answers.len() {
-        answers[i] = n;
-    }
-}
-
-// The answer of a visit as one number.
+// The answer of a visit as one number, where there is room for it.
 fn answer(answers: &mut [u64], i: usize, response: Response)
     requires { ResponseWithin image_limit response }
     ensures { answers.new ≡ set answers.old i (packed_response response) }
 {
-    let packed = paused::pack_response(response);
-    store(answers, i, packed);
+    if i < answers.len() {
+        answers[i] = paused::pack_response(response);
+    }
 }
 
 // The sets of a table, three numbers each: bytes of the image, numbers of the state, share.
@@ -111,9 +98,9 @@ fn visit_all(
     if table.len() < 3 {
         return;
     }
-    let cells = paused::least(limits::PAUSED_LENGTH, paused.len());
-    let bytes = paused::least(table[0], images.len());
-    let size = paused::least(table[1], states.len());
+    let cells = limits::PAUSED_LENGTH.min(paused.len());
+    let bytes = table[0].min(images.len());
+    let size = table[1].min(states.len());
     let response = visit(
         &mut paused[..cells],
         &images[..bytes],

@@ -135,6 +135,3 @@ module _ (watched limits : List ℕ) (first v count known₀ to : ℕ) (before :
           });
           long = l ∙ x.long;
         }
-
-    pub putting_all : count ≤ id → TimersPut (timers_in watched limits first count) v count known₀ to before after' (record { known = known; to = t })
-    putting_all h = let e : id - first ≡ count - first = omega (arith, h, x.come.0, x.come.1) in rw e at x.put

@@ -57,12 +57,10 @@ pub fn timers_of(
     let count = names.count;
     let mut known = names.known;
     let mut t = to;
-    let mut id = first;
-    while id < count {
+    for id in first..count {
         let one = timer_of(watched, limits, id, Names { count, known }, v, out, t);
         known = one.known;
         t = one.to;
-        id += 1;
     }
     Behind { known, to: t }
 }

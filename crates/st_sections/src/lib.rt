@@ -66,10 +66,8 @@ fn lines_before(
     ensures { Fronts (lines_printed (map (line_for previous) (take inputs (declarations_of (table_names text.now starts.now ends.now count) values.now))))
         out.old out.new to result }
 {
-    let mut i = inputs;
     let mut place = to;
-    while 0 < i {
-        i -= 1;
+    for i in (0..inputs).rev() {
         let z = values[i];
         place = line_before(text, starts, ends, count, i, z, previous, out, place);
     }
@@ -92,10 +90,8 @@ fn pairs_before(
     ensures { Fronts (lines_printed (with_previous (drop first (declarations_of (table_names text.now starts.now ends.now count) values.now))))
         out.old out.new to result }
 {
-    let mut i = count;
     let mut place = to;
-    while first < i {
-        i -= 1;
+    for i in (first..count).rev() {
         let z = values[i];
         let own = line_before(text, starts, ends, count, i, z, true, out, place);
         place = line_before(text, starts, ends, count, i, z, false, out, own);
@@ -206,10 +202,8 @@ pub fn savings_before(
     ensures { Fronts (statements_printed (map saving_line (table_names text.now starts.now ends.now count)))
         out.old out.new to result }
 {
-    let mut i = count;
     let mut place = to;
-    while 0 < i {
-        i -= 1;
+    for i in (0..count).rev() {
         place = saving_before(text, starts, ends, count, i, out, place);
     }
     place

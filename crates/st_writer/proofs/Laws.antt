@@ -1,9 +1,11 @@
 -- Bytes put one before the other. Assumes nothing.
 use mathlib.Core.Path.{◌≡◌, refl, sym, ap, subst, ◌∙◌}
-use mathlib.Core.List.{List, [], ◌∷◌, ◌++◌, append_assoc}
+use mathlib.Core.List.{List, [], ◌∷◌, ◌++◌, reverse, append_assoc}
 use Prim.Native.Nat.{ℕ, zero, suc, ◌+◌, ◌-◌, ◌/◌, ◌%◌, ◌≤◌, ◌<◌}
+use native.Mathlib.Numerals.{add-one}
 use native.Mathlib.Omega.{arith}
-use lib.ListN.{length, set, drop, get_or, length-set, drop_of_length-le}
+use Rattle.std.proofs.lemmas.List.{get_or-reverse}
+use lib.ListN.{length, set, drop, get_or, length-set}
 use lib.Seq.{drop-cons, sets, set_out}
 use Rattle.leb128.proofs.Stores.{set_before}
 use Rattle.lexer.specs.Bytes.{part}
@@ -57,33 +59,26 @@ pub byte_past : (m : List ℕ) (to b : ℕ) → 0 < to → length m ≤ to - 1 �
 byte_past m to b z h = subst (λ (k : List ℕ). Fronts (λ l. b ∷ l) m k to (to - 1)) (set_out m (to - 1) b h) (byte_stored m to b z)
 
 -- one bracket more
-pub opens_more : (n k : ℕ) (m i j : List ℕ) (to p q : ℕ) → 0 < k → k ≤ n → Fronts (openings (n - k)) m i to p → Fronts (λ l. 40 ∷ l) i j p q → Fronts (openings (n - (k - 1))) m j to q
+pub opens_more : (k : ℕ) (m i j : List ℕ) (to p q : ℕ) → Fronts (openings k) m i to p → Fronts (λ l. 40 ∷ l) i j p q → Fronts (openings (k + 1)) m j to q
 unfolding openings
-opens_more n k m i j to p q h g a b =
-    let e : n - (k - 1) ≡ suc (n - k) = omega arith in
-    rw e (fronts_then a b)
+opens_more k m i j to p q a b = rw add-one (fronts_then a b)
 
-pub opens_none : (m : List ℕ) (n to : ℕ) → Fronts (openings (n - n)) m m to to
+pub opens_none : (m : List ℕ) (to : ℕ) → Fronts (openings 0) m m to to
 unfolding openings
-opens_none m n to = let e : n - n ≡ 0 = omega arith in rw e (fronts_nothing m to)
-
-pub opens_all : (m i : List ℕ) (n k to p : ℕ) → k ≤ 0 → Fronts (openings (n - k)) m i to p → Fronts (openings n) m i to p
-opens_all m i n k to p z w = let e : n - k ≡ n = omega arith in subst (λ (j : ℕ). Fronts (openings j) m i to p) e w
+opens_none m to = fronts_nothing m to
 
 -- ---- words, right to left
 
-pub word_none : (m word : List ℕ) (to : ℕ) → Fronts (λ l. drop (length word) word ++ l) m m to to
-word_none m word to = let h : length word ≤ length word = omega arith in rw (drop_of_length-le word h) (fronts_nothing m to)
-
-pub word_more : (m i j word : List ℕ) (n to p q : ℕ) → 0 < n → n ≤ length word → Fronts (λ l. drop n word ++ l) m i to p → Fronts (λ l. get_or word (n - 1) 0 ∷ l) i j p q
-    → Fronts (λ l. drop (n - 1) word ++ l) m j to q
-word_more m i j word n to p q h g a b =
-    let e : suc (n - 1) ≡ n = omega arith in
-    let d : drop (n - 1) word ≡ get_or word (n - 1) 0 ∷ drop n word = drop-cons word (n - 1) 0 (omega arith) ∙ ap (λ (k : ℕ). get_or word (n - 1) 0 ∷ drop k word) e in
-    rw d (fronts_then a b)
-
-pub word_all : (m i word : List ℕ) (n to p : ℕ) → n ≤ 0 → Fronts (λ l. drop n word ++ l) m i to p → Fronts (λ l. word ++ l) m i to p
-word_all m i word n to p z w = let e : n ≡ 0 = omega arith in subst (λ (k : ℕ). Fronts (λ l. drop k word ++ l) m i to p) e w
+-- the next byte of a word from its end
+pub word_turn : (m i j word : List ℕ) (k to p q b : ℕ) → k < length word → b ≡ get_or (reverse word) k b → Fronts (λ l. drop (length word - k) word ++ l) m i to p
+    → Fronts (λ l. b ∷ l) i j p q → Fronts (λ l. drop (length word - (k + 1)) word ++ l) m j to q
+word_turn m i j word k to p q b h g a w =
+    let n = length word - (k + 1) in
+    let e : suc n ≡ length word - k = omega arith in
+    let f : length word - 1 - k ≡ n = omega arith in
+    let r : get_or word n b ≡ b = sym (g ∙ get_or-reverse word k b h ∙ ap (λ (x : ℕ). get_or word x b) f) in
+    let d : drop n word ≡ b ∷ drop (length word - k) word = drop-cons word n b (omega arith) ∙ ap (λ (x : ℕ). x ∷ drop (suc n) word) r ∙ ap (λ (x : ℕ). b ∷ drop x word) e in
+    rw d (fronts_then a w)
 
 -- ---- decimals
 

@@ -38,11 +38,9 @@ pub fn byte_before(out: &mut [u8], to: usize, b: u8) -> usize
 pub fn bytes_before(out: &mut [u8], to: usize, word: &[u8]) -> usize
     ensures { Fronts (λ (l : List ℕ). word.now ++ l) out.old out.new to result }
 {
-    let mut i = word.len();
     let mut place = to;
-    while 0 < i {
-        i -= 1;
-        place = byte_before(out, place, word[i]);
+    for b in word.iter().rev() {
+        place = byte_before(out, place, *b);
     }
     place
 }
@@ -51,11 +49,9 @@ pub fn bytes_before(out: &mut [u8], to: usize, word: &[u8]) -> usize
 pub fn opens_before(out: &mut [u8], to: usize, n: usize) -> usize
     ensures { Fronts (openings n) out.old out.new to result }
 {
-    let mut left = n;
     let mut place = to;
-    while 0 < left {
+    for _ in 0..n {
         place = byte_before(out, place, 40);
-        left -= 1;
     }
     place
 }
@@ -122,6 +118,7 @@ pub fn mirror(code: &[u8], out: &mut [u8])
 {
     let mut at: usize = 0;
     let mut to = code.len();
+    // a `while`: the place moves on by an instruction's length, which is known when it is read
     while at < code.len() {
         match bytecode::fetch(code, at) {
             bytecode::Fetched::Instruction(_, _, next) => {

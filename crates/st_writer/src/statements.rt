@@ -115,6 +115,7 @@ fn cases(
 {
     let mut a = at;
     let mut place = to;
+    // a `while`: the place moves on by a case's length, which is known when it is read
     while pick_at(code, a) {
         let one = case(text, starts, ends, count, code, a, out, place);
         let next = one.next;
@@ -170,6 +171,7 @@ pub fn rules_before(
 {
     let mut a: usize = 0;
     let mut place = to;
+    // a `while`: the place moves on by a rule's length, which is known when it is read
     while a < code.len() {
         let one = rule(text, starts, ends, count, code, a, out, place);
         place = one.to;

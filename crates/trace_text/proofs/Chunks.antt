@@ -1,12 +1,14 @@
 -- Standard input split byte by byte, in chunks. Assumes nothing.
 use mathlib.Core.Path.{◌≡◌, refl, sym, ◌∙◌}
-use mathlib.Core.Bool.{true, false, false≢true}
+use mathlib.Core.Bool.{Bool, true, false, false≢true}
 use mathlib.Core.List.{List, [], ◌∷◌}
-use Prim.Native.Nat.{ℕ, suc, ◌+◌, ◌≤◌, ◌<◌}
+use Prim.Native.Nat.{ℕ, suc, ◌+◌, ◌≤◌, ◌<◌, max}
 use native.Mathlib.Numerals.{add-one}
 use native.Mathlib.Omega.{arith}
+use lib.Dec.{leb}
 use lib.ListN.{length, get_or, drop, drop_of_length-le}
 use lib.Seq.{drop-cons}
+use borrow.Author.Tests.{leb-true, leb-false}
 use Rattle.trace_text.specs.declared.Stage.{Stage}
 use Rattle.trace_text.specs.declared.Stage.TheVariants.{LineStart, InLine, Hash, Rows}
 use Rattle.trace_text.specs.Output.{Put}
@@ -82,3 +84,15 @@ module _ {text₀ : List ℕ} {at : ℕ} {stage₀ : Stage} {chunk : List ℕ} {
         put = putting_next (text_after stage (get_or chunk i 0)) h.put (rw (g, add-one, e)) m;
         place = rw (g, add-one) (omega arith);
       }
+
+-- all of the chunk has been gone over, from a place that may lie past its end
+pub gone_over : (stage : Stage) (chunk : List ℕ) (from i : ℕ) → length chunk ≤ i → from ≤ i → (from ≤ length chunk → i ≤ length chunk)
+    → i ≡ from + bytes_before stage (drop from chunk) → max from (length chunk) ≡ from + bytes_before stage (drop from chunk)
+unfolding bytes_before
+gone_over stage chunk from i h g k e = by (leb from (length chunk)) (leb-true from (length chunk)) (leb-false from (length chunk)) where
+  by : (t : Bool) → (t ≡ true → from ≤ length chunk) → (t ≡ false → length chunk < from) → max from (length chunk) ≡ from + bytes_before stage (drop from chunk)
+  by true y f = let l = k (y refl) in omega arith
+  by false y f =
+      let l = f refl in
+      let none : drop from chunk ≡ [] = drop_of_length-le chunk (omega arith) in
+      rw none (omega arith)

@@ -3,12 +3,12 @@ use mathlib.Core.Path.{◌≡◌, refl, sym, ap, ◌∙◌}
 use mathlib.Core.Bool.{Bool, true, false, cond}
 use mathlib.Core.List.{List, [], ◌∷◌, ◌++◌, map, append-nil, append_assoc}
 use Prim.Native.Nat.{ℕ, zero, suc, ◌+◌, ◌-◌, ◌/◌, ◌%◌, ◌≤◌, ◌<◌}
+use Rattle.std.specs.List.{zip}
 use native.Mathlib.Numerals.{add-one}
 use native.Mathlib.Omega.{arith}
 use lib.Dec.{ltb}
 use lib.IntN.{ℤ, pos, negsuc}
-use lib.ListN.{length, get_or, drop, length-append}
-use lib.Seq.{drop-cons}
+use lib.ListN.{length, take, length-append}
 use borrow.Author.Tests.{lt-ltb, le-ltb, le-leb, ltb-true, ltb-false}
 use Rattle.lexer.specs.Bytes.{bytes, part}
 use Rattle.lexer.specs.Lexer.{is_digit, value_of, value_on}
@@ -109,19 +109,15 @@ refused_is number place = simp (append_assoc, append-nil)
 
 -- ---- a table of names
 
-pub no_starts : (text ends : List ℕ) (n : ℕ) → table_names text [] ends n ≡ []
-unfolding table_names
-no_starts text ends n = refl
+-- what a pair of bounds spells
+abbrev pub spelled : List ℕ → ℕ × ℕ → List ℕ
+spelled text p = part text p.0 p.1
 
-pub no-ends : (text starts : List ℕ) (n : ℕ) → table_names text starts [] n ≡ []
+pub names_zip : (text starts ends : List ℕ) (n : ℕ) → table_names text starts ends n ≡ map (spelled text) (take n (zip starts ends))
 unfolding table_names
-no-ends text [] n = refl
-no-ends text (s ∷ starts) n = refl
-
-pub spelled_next : (text starts ends : List ℕ) (n i : ℕ) → i < n → i < length starts → i < length ends
-    → table_names text (drop i starts) (drop i ends) (n - i)
-    ≡ part text (get_or starts i 0) (get_or ends i 0) ∷ table_names text (drop (i + 1) starts) (drop (i + 1) ends) (n - (i + 1))
-unfolding table_names
-spelled_next text starts ends n i h s e =
-    let k : n - i ≡ suc (n - (i + 1)) = omega arith in
-    rw (drop-cons starts i 0 s, drop-cons ends i 0 e, k, add-one)
+names_zip text [] ends zero = refl
+names_zip text [] ends (suc n) = refl
+names_zip text (s ∷ starts) [] zero = refl
+names_zip text (s ∷ starts) [] (suc n) = refl
+names_zip text (s ∷ starts) (e ∷ ends) zero = refl
+names_zip text (s ∷ starts) (e ∷ ends) (suc n) = ap (λ (l : List (List ℕ)). part text s e ∷ l) (names_zip text starts ends n)

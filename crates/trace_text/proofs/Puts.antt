@@ -1,12 +1,35 @@
 -- Bytes put into a buffer one run after the other. Assumes nothing.
 use mathlib.Core.Path.{◌≡◌, refl, sym, ap, subst, ◌∙◌}
+use mathlib.Core.Bool.{Bool, true, false}
 use mathlib.Core.List.{List, [], ◌++◌}
-use Prim.Native.Nat.{ℕ, ◌+◌, ◌≤◌, min}
+use Prim.Native.Nat.{ℕ, ◌+◌, ◌-◌, ◌≤◌, ◌<◌, min}
 use native.Mathlib.Omega.{arith}
-use lib.ListN.{length, length-append}
-use lib.Seq.{sets, length-sets}
-use Rattle.leb128.proofs.Stores.{sets_append, sets_clip}
+use lib.Dec.{leb}
+use lib.ListN.{length, take, drop, length-append, take-append-drop}
+use lib.Seq.{sets, sets-eq, length-sets, paste, take_all, length-take-le}
+use borrow.Author.Tests.{leb-true, leb-false}
+use borrow.Rule.Slice.PartMut.{put_mid}
+use Rattle.std.proofs.lemmas.Slice.{put_mid-paste}
+use Rattle.leb128.proofs.Stores.{sets_append, sets_clip, sets_past}
 use Rattle.trace_text.specs.Output.{Put}
+
+-- ---- a run of stores as one copy: k of them have room
+
+pub sets_part : {A : Type 0} (l xs : List A) (at k : ℕ) → at ≤ length l → k ≡ min (length xs) (length l - at) → sets l at xs ≡ paste l at (take k xs) k
+sets_part l xs at k h e = by (leb (length xs) k) (leb-true (length xs) k) (leb-false (length xs) k) where
+  n : length (take k xs) ≡ k
+  n = length-take-le k xs (omega arith)
+
+  front : sets l at (take k xs) ≡ paste l at (take k xs) k
+  front = rw (take_all k (take k xs) (omega (arith, n))) (sets-eq (take k xs) l at (omega (arith, n)) ∙ (rw n))
+
+  by : (t : Bool) → (t ≡ true → length xs ≤ k) → (t ≡ false → k < length xs) → sets l at xs ≡ paste l at (take k xs) k
+  by true y f = ap (sets l at) (sym (take_all k xs (y refl))) ∙ front
+  by false y f =
+      let g = f refl in
+      ap (sets l at) (sym (take-append-drop k xs)) ∙ sets_append l at (take k xs) (drop k xs)
+      ∙ sets_past (sets l at (take k xs)) _ (drop k xs) (rw length-sets (omega (arith, n)))
+      ∙ front
 
 -- ---- puts
 
@@ -42,6 +65,16 @@ put_as {l} {at} {xs} {ys} {k} {p} h e = subst (λ (zs : List ℕ). Put l at zs k
 -- from a place past the end as from the end
 pub put_clip : {l : List ℕ} {at : ℕ} {xs k : List ℕ} {p : ℕ} → Put l (min at (length l)) xs k p → Put l at xs k p
 put_clip {l} {at} {xs} h = let e = h.place in record { memory = h.memory ∙ sets_clip l at xs; place = omega arith }
+
+-- a copy of as much as there is room for
+pub put_copied : (l : List ℕ) (at : ℕ) (xs : List ℕ) (p k : ℕ) {ys : List ℕ} → p ≡ min at (length l) → k ≡ min (length xs) (length l - p) → ys ≡ take k xs
+    → Put l at xs (put_mid p (p + k - p) l ys) (p + k)
+put_copied l at xs p k {ys} e f g =
+    let n : length (take k xs) ≡ k = length-take-le k xs (omega arith) in
+    put_clip (record {
+      memory = put_mid-paste p (p + k - p) l ys (take k xs) k g (omega arith) (sym n) ∙ sym (sets_part l xs p k (omega arith) f) ∙ ap (λ (i : ℕ). sets l i xs) e;
+      place = omega arith;
+    })
 
 -- ---- a run of bytes that is being put: what is left of it makes the whole
 pub record Putting (l : List ℕ) (at : ℕ) (all : List ℕ) (k : List ℕ) (p : ℕ) (rest : List ℕ) : Type 0 where

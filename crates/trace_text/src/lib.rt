@@ -93,19 +93,19 @@ fn put_text(text: &mut [u8], at: usize, stage: Stage, b: u8) -> usize
     match stage {
         Stage::LineStart => {
             if b == 35 {
-                return print::clip(text.len(), at);
+                return at.min(text.len());
             }
             print::put_byte(text, at, b)
         }
         Stage::InLine => print::put_byte(text, at, b),
         Stage::Hash => {
             if b == 10 {
-                return print::clip(text.len(), at);
+                return at.min(text.len());
             }
             let next = print::put_byte(text, at, 35);
             print::put_byte(text, next, b)
         }
-        Stage::Rows => print::clip(text.len(), at),
+        Stage::Rows => at.min(text.len()),
     }
 }
 
@@ -116,9 +116,8 @@ pub fn split_chunk(text: &mut [u8], s: Split, chunk: &[u8], from: usize) -> Divi
     ensures rows_value { result.rows ≡ from + bytes_before s.stage (drop from chunk.now) }
 {
     let mut stage = s.stage;
-    let mut place = print::clip(text.len(), s.length);
-    let mut i = from;
-    while i < chunk.len() {
+    let mut place = s.length.min(text.len());
+    for i in from..chunk.len() {
         if is_rows(stage) {
             let split = Split {
                 stage: stage,
@@ -132,7 +131,6 @@ pub fn split_chunk(text: &mut [u8], s: Split, chunk: &[u8], from: usize) -> Divi
         let b = chunk[i];
         place = put_text(text, place, stage, b);
         stage = stage_after(stage, b);
-        i += 1;
     }
     let split = Split {
         stage: stage,
@@ -140,7 +138,7 @@ pub fn split_chunk(text: &mut [u8], s: Split, chunk: &[u8], from: usize) -> Divi
     };
     Divided {
         split: split,
-        rows: i,
+        rows: from.max(chunk.len()),
     }
 }
 
@@ -277,12 +275,9 @@ pub fn line_byte(cells: &mut [i32], s: Line, b: u8) -> Line
 fn put_long_row(cells: &mut [i32]) -> usize
     ensures { (result ≡ 65) × (cells.new ≡ sets cells.old 0 long_row) }
 {
-    let mut i = 0;
-    while i < LONG_ROW {
-        store(cells, i, 0);
-        i += 1;
-    }
-    i
+    let count = LONG_ROW.min(cells.len());
+    cells[..count].fill(0);
+    LONG_ROW
 }
 
 // The line has ended: how many of the cells, from the first on, are the row for scan.

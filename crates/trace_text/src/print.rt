@@ -5,16 +5,6 @@ ghost use Rattle.lexer.specs.Bytes.{part};
 ghost use Rattle.lexer.specs.Names.{table_names};
 ghost use Rattle.trace_text.specs.Output.{Put, unsigned_decimal, decimal_of, spaced, refused_line, head_line, row_line};
 
-// The place, or the end where the place is past it.
-pub fn clip(end: usize, at: usize) -> usize
-    ensures { result ≡ min at end }
-{
-    if at < end {
-        return at;
-    }
-    end
-}
-
 // One byte, where there is room for it; the place behind it, at most the buffer's end.
 pub fn put_byte(out: &mut [u8], at: usize, b: u8) -> usize
     ensures { Put out.old at (b ∷ []) out.new result }
@@ -51,13 +41,10 @@ fn put_decimal(out: &mut [u8], at: usize, z: i32) -> usize
 fn put_bytes(out: &mut [u8], at: usize, word: &[u8]) -> usize
     ensures { Put out.old at word.now out.new result }
 {
-    let mut place = clip(out.len(), at);
-    let mut i = 0;
-    while i < word.len() {
-        place = put_byte(out, place, word[i]);
-        i += 1;
-    }
-    place
+    let place = at.min(out.len());
+    let count = word.len().min(out.len() - place);
+    out[place..place + count].copy_from_slice(&word[..count]);
+    place + count
 }
 
 // The part of the text from `start` to `end`, after a space.
@@ -79,19 +66,9 @@ fn put_names(
 ) -> usize
     ensures { Put out.old at (spaced (table_names text.now starts.now ends.now count)) out.new result }
 {
-    let mut place = clip(out.len(), at);
-    let mut i = 0;
-    while i < count {
-        if starts.len() <= i {
-            return place;
-        }
-        if ends.len() <= i {
-            return place;
-        }
-        let s = starts[i];
-        let e = ends[i];
-        place = put_name(out, place, text, s, e);
-        i += 1;
+    let mut place = at.min(out.len());
+    for (start, end) in starts.iter().zip(ends).take(count) {
+        place = put_name(out, place, text, *start, *end);
     }
     place
 }
@@ -117,13 +94,10 @@ fn put_values(out: &mut [u8], at: usize, values: &[i32]) -> usize
     ensures put { Put out.old at (spaced (map decimal_of values.now)) out.new result }
     ensures values_len_bound { length (spaced (map decimal_of values.now)) ≤ 12 * length values.now }
 {
-    let mut place = clip(out.len(), at);
-    let mut i = 0;
-    while i < values.len() {
-        let z = values[i];
+    let mut place = at.min(out.len());
+    for z in values {
         let next = put_byte(out, place, 32);
-        place = put_decimal(out, next, z);
-        i += 1;
+        place = put_decimal(out, next, *z);
     }
     place
 }

@@ -4,7 +4,6 @@ use lib.IntN.{pos}
 use lib.ListN.{get_or}
 use mir.Val.{SFits}
 use mir.Syntax.{w32}
-use Rattle.arith.specs.Values.{count}
 use Rattle.arith.proofs.Laws.{same32}
 use Rattle.paused.specs.Memory.{layout_of}
 use Rattle.paused.proofs.layout_in.Statement.{statement}

@@ -1,5 +1,5 @@
 -- The scans of a list of rows as the running code records them: auxiliary definitions for proofs. Assumes nothing.
-use Rattle.std.specs.Prelude.{ℕ, ◌+◌, ◌≤◌, ◌<◌, min, ◌≡◌, List, [], ◌∷◌, ℤ, length, get_or, take, drop, set}
+use Rattle.std.specs.Prelude.{ℕ, ◌+◌, ◌≤◌, min, ◌≡◌, List, [], ◌∷◌, ℤ, length, set}
 use Rattle.std.proofs.lemmas.List.Edits.{sets}
 use Rattle.limits.specs.Limits.{stack_limit}
 use Rattle.limits.specs.Answer.{Answer, accepted, refused}
@@ -7,7 +7,6 @@ use Rattle.semantics.specs.Formula.{State}
 use Rattle.scan.specs.Services.{AfterScan, scan_of}
 use Rattle.shapes.specs.declared.Measured.{Measured}
 use Rattle.before.specs.Inner.Known.{KnownImage}
-use Rattle.replay.specs.declared.Cursor.{Cursor}
 use Rattle.replay.specs.Replay.{answer_number}
 
 -- the memory that scans and their records are written to, and the place behind the trace so far, no further than there is room
@@ -41,18 +40,6 @@ record_scan i a m =
 abbrev pub scan_rows : List ℕ → ℕ → List (List ℤ) → Records → Records
 scan_rows image i [] m = m
 scan_rows image i (r ∷ rs) m = scan_rows image (i + 1) rs (record_scan i (scan_of image m.state r) m)
-
--- a row is left, and the cursor's places are no further than cells and trace go
-pub record RecordWithin (c : Cursor) (cells : List ℤ) (lengths : List ℕ) (trace : List ℤ) : Type 0 where
-  pub row : c.row < length lengths
-  pub cell : c.cell ≤ length cells
-  pub place : c.place ≤ length trace
-
--- the cursor and the memory after the scan of the next row
-pub record RowScanned (image : List ℕ) (cells : List ℤ) (lengths : List ℕ) (c next : Cursor) (before after : Records) : Type 0 where
-  pub row : next.row ≡ c.row + 1
-  pub cell : next.cell ≡ min (c.cell + get_or lengths c.row 0) (length cells)
-  pub so : after ≡ record_scan c.row (scan_of image before.state (take (get_or lengths c.row 0) (drop c.cell cells))) before
 
 -- ---- an image whose shape was read
 

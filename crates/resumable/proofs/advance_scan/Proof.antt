@@ -39,7 +39,7 @@ advance-untimed-requires c κs =
       (
         record {
           bytes = rest_short f.result.base image_limit a.image.now (omega (arith, c.if-image-layout.false, w.images));
-          budget = omega (arith, c.least-n.ensures);
+          budget = omega (arith, c.min-n.ensures);
           place = v.places;
           steps = v.counts;
         },
@@ -53,9 +53,9 @@ returns-3 c =
     let u = c.requires in
     let y : a.p.phase ≡ 0 → ⊥ = λ q. omega (arith, u.phase) in
     let f = c.layout_in-layout in
-    let r = rw (rest_of a.image.now f.result.base, c.least-n.ensures) at c.advance_untimed.ensures.0 in (
+    let r = rw (rest_of a.image.now f.result.base, c.min-n.ensures) at c.advance_untimed.ensures.0 in (
       r ∙ advance_goes a.image.now a.steps a.paused.now u.cells a.p u.stands y u.phase u.some f.result f.ensures c.if-image-layout.false c.if-image-base.false,
-      omega (arith, c.least-n.ensures, c.advance_untimed.ensures.1),
+      omega (arith, c.min-n.ensures, c.advance_untimed.ensures.1),
     )
 
 advance-timed-requires : tie.Need-advance_timed-requires
@@ -68,7 +68,7 @@ advance-timed-requires c κs =
       record { cells = u.cells; held = v.stack },
       record {
         bytes = rest_short f.result.base image_limit a.image.now (omega (arith, c.if-image-layout.false, w.images));
-        budget = omega (arith, c.least-n.ensures);
+        budget = omega (arith, c.min-n.ensures);
         place = v.places;
         steps = v.counts;
       },
@@ -80,9 +80,9 @@ returns-4 c =
     let u = c.requires in
     let y : a.p.phase ≡ 0 → ⊥ = λ q. omega (arith, u.phase) in
     let f = c.layout_in-layout in
-    let r = rw (rest_of a.image.now f.result.base, c.least-n.ensures, ← f.ensures) at c.advance_timed.ensures.0 in (
+    let r = rw (rest_of a.image.now f.result.base, c.min-n.ensures, ← f.ensures) at c.advance_timed.ensures.0 in (
       r ∙ advance_goes a.image.now a.steps a.paused.now u.cells a.p u.stands y u.phase u.some f.result f.ensures c.if-image-layout.false c.if-image-base.false,
-      omega (arith, c.least-n.ensures, c.advance_timed.ensures.1),
+      omega (arith, c.min-n.ensures, c.advance_timed.ensures.1),
     )
 
 pub advance_scan_spec : {M : Type 1} → statement M
