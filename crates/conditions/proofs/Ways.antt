@@ -23,6 +23,7 @@ use Rattle.expressions.specs.declared.scope.Names.{Names}
 use Rattle.expressions.specs.Inner.Scopes.{scope_of, Declared}
 use Rattle.lexer.specs.Results.{Step}
 use Rattle.std.specs.Prelude.{Ok, Err}
+use Rattle.limits.specs.declared.Refusal.{Refusal}
 use Rattle.expressions.specs.Inner.Steps.{step_at, looked_ahead, Parses, Room}
 use Rattle.expressions.specs.Inner.Readers.{Codes, StandsAt, closed_step}
 use Rattle.expressions.proofs.Steps.{Refuses, refused_now, told, untold, up_to, Accepted, accepted_by, accepts_up_to, answers, same_part, passed, then_refused, ahead_at, ahead_stands, closing, closed_parses, one_more, room_fits, room_after, room_more, room_at}
@@ -175,7 +176,7 @@ module _ (text starts ends : List ℕ) (names : Names) (left at : ℕ) where
       unfolding inverted
       inverted_square = rw (← ahead_at text at to d e, first.read, told first open_square m)
 
-      pub inverted_refuses : {k q l : ℕ} {front last : List ℕ} → p ≡ Err e → Parses text bytes_c (inverted_in left sc at) l front last p
+      pub inverted_refuses : {x : Refusal} {l : ℕ} {front last : List ℕ} → p ≡ Err x → Parses text bytes_c (inverted_in left sc at) l front last p
       inverted_refuses i = same_part inverted_square (passed c i opposite_refuses)
 
       pub inverted_accepts : {l : Place} {x : ℕ} {last : List ℕ} → p ≡ Ok l → (x ≡ l.to + 1) × (last ≡ set after l.to 16) → Parses text bytes_c (inverted_in left sc at) v before last (Ok (up_to l x))

@@ -83,7 +83,9 @@ fn comparison(
     if code == 0 {
         return Err(Refusal::NotAllowed(sign.start));
     }
-    let mut behind = expressions::expression(text, starts, ends, names, sign.end, left, out, sign.to)?;
+    let mut behind = expressions::expression(
+        text, starts, ends, names, sign.end, left, out, sign.to,
+    )?;
     behind.to = leb128::put_byte(out, behind.to, code);
     Ok(behind)
 }

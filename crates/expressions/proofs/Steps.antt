@@ -17,7 +17,7 @@ use Rattle.lexer.specs.declared.Place.{Place}
 use Rattle.lexer.specs.Results.{Step}
 use Rattle.std.specs.Prelude.{Ok, Err}
 use Rattle.limits.specs.declared.Refusal.{Refusal}
-use Rattle.limits.specs.declared.Refusal.TheVariants.{NotAllowed}
+use Rattle.limits.specs.declared.Refusal.TheVariants.{NotAllowed, NoToken}
 use Rattle.limits.specs.Refusals.{number_of, place_of}
 use Rattle.lexer.proofs.Laws.{cond_prop, token_at_moved}
 use Rattle.grammar.specs.Parsed.{Parsed, accepted, refused, and_then, on_token, sign, expected, phrase, followed}
@@ -31,14 +31,11 @@ use Rattle.expressions.specs.Inner.Readers.{StandsAt, closed_step, behind_minus}
 
 -- ---- the constructors of a step are apart, and keep what they hold
 
-pub done_refused : {A : Type 0} {h : Place} {e : Refusal} → Ok h ≡ Err e → A
+pub done_refused : {A : Type 0} {h : Place} {e : Refusal} → ◌≡◌ {A = Step} (Ok h) (Err e) → A
 done_refused e = let z : ◌≡◌ {A = ℕ} 0 1 = cc in absurd (omega arith)
 
-pub done_place : {h g : Place} → Ok h ≡ Ok g → h ≡ g
+pub done_place : {h g : Place} → ◌≡◌ {A = Step} (Ok h) (Ok g) → h ≡ g
 done_place e = cc
-
-same_numbers : {A : Type 0} {k q l r : ℕ} → Err e ≡ Err e → ◌≡◌ {A = Parsed A} (refused (number_of e) (place_of e)) (refused (number_of e) (place_of e))
-same_numbers e = cc
 
 -- ---- the token behind a part
 
@@ -171,9 +168,9 @@ module _ (text : List ℕ) (at to : ℕ) {w : Step} (e : w ≡ token_step (token
       go (fault q) d = done_refused d
 
   pub ahead_none : {e : Refusal} → w ≡ Err e → w ≡ step_at (token_at text at) at to
-  ahead_none {k} {q} i = i ∙ go (token_at text at) (sym i ∙ e)
+  ahead_none {e = f} i = i ∙ go (token_at text at) (sym i ∙ e)
     where
-      go : (r : TokenRead) → Err e ≡ token_step r → Err e ≡ step_at r at to
+      go : (r : TokenRead) → Err f ≡ token_step r → Err f ≡ step_at r at to
       go (token k s n) d = done_refused (sym d)
       go (fault p) d = d
 
@@ -197,11 +194,11 @@ module _ (text : List ℕ) (at to : ℕ) {r : Step} where
 
   -- what stands there is no token, and the part that begins with it is refused
   pub ahead_fault : {A : Type 0} {code : A → List ℕ} {p : Parsed A} {u : ℕ} {before after : List ℕ} {e : Refusal} → r ≡ Err e → r ≡ step_at (token_at text at) at to → ((m : ℕ) → token_at text at ≡ fault m → p ≡ refused no_token m) → Parses text code p u before after r
-  ahead_fault {p = p} {k = k} {q = q} d e f = answers d (refuses (refused_now (go (token_at text at) refl (sym d ∙ e))))
+  ahead_fault {p = p} {e = x} d e f = answers d (refuses (refused_now (go (token_at text at) refl (sym d ∙ e))))
     where
-      go : (w : TokenRead) → token_at text at ≡ w → Err e ≡ step_at w at to → p ≡ refused (number_of e) (place_of e)
+      go : (w : TokenRead) → token_at text at ≡ w → Err x ≡ step_at w at to → p ≡ refused (number_of x) (place_of x)
       go (token w s m) i c = done_refused (sym c)
-      go (fault m) i c = f m i ∙ same_numbers c
+      go (fault m) i c = let j : NoToken m ≡ x = cc in f m i ∙ ap (λ (y : Refusal). refused (number_of y) (place_of y)) j
 
 -- an accepted part that ends at n, behind which `ahead` read
 pub ended : {A : Type 0} {text : List ℕ} {code : A → List ℕ} {p : Parsed A} {to t n : ℕ} {before after : List ℕ} {r : Step} (a : A) → p ≡ accepted a n → t ≡ to + length (code a) → after ≡ sets before to (code a) → r ≡ step_at (token_at text n) n t → Parses text code p to before after r
@@ -228,12 +225,12 @@ recoded {A} {B} {text} {code} {more} {to} {n} {before} {after} {r} {a} b c e = g
           count = rw (e, ← i) x.count;
           wrote = rw (e, ← i) x.wrote;
         })
-    go (Err e) d = answers d (refuses (record { looked = behind (refused_by c d).looked }))
+    go (Err x) d = answers d (refuses (record { looked = behind (refused_by c d).looked }))
       where
-        behind : looked_ahead text (accepted a n) ≡ refused k q → looked_ahead text (accepted b n) ≡ refused k q
+        behind : looked_ahead text (accepted a n) ≡ refused (number_of x) (place_of x) → looked_ahead text (accepted b n) ≡ refused (number_of x) (place_of x)
         behind f = by (token_at text n) f
           where
-            by : (w : TokenRead) → ◌≡◌ {A = Parsed (Followed A)} (on_token w (λ k s m. accepted (record { part = a; kind = k; start = s; end = m }) n)) (refused k q) → ◌≡◌ {A = Parsed (Followed B)} (on_token w (λ k s m. accepted (record { part = b; kind = k; start = s; end = m }) n)) (refused k q)
+            by : (w : TokenRead) → ◌≡◌ {A = Parsed (Followed A)} (on_token w (λ k s m. accepted (record { part = a; kind = k; start = s; end = m }) n)) (refused (number_of x) (place_of x)) → ◌≡◌ {A = Parsed (Followed B)} (on_token w (λ k s m. accepted (record { part = b; kind = k; start = s; end = m }) n)) (refused (number_of x) (place_of x))
             by (token w s m) f = apart f
             by (fault m) f = same_refusal f
 

@@ -229,7 +229,7 @@ module _ (text starts ends : List ℕ) (names : Names) (left at : ℕ) where
       minus_operand : h.kind ≡ kind_number minus → s ≡ step_at (token_at text h.end) h.end to → factor_in left sc at ≡ negative (primary_in left sc g.at)
       minus_operand m i = rw (ahead_at text h.end to j i) (factor_minus m)
 
-      pub factor_refuses : {k q l : ℕ} {first last : List ℕ} → p ≡ Err e → Parses text bytes_e (factor_in left sc at) l first last p
+      pub factor_refuses : {x : Refusal} {l : ℕ} {first last : List ℕ} → p ≡ Err x → Parses text bytes_e (factor_in left sc at) l first last p
       factor_refuses x =
           by_minus text to h f
           (λ m i. same_part (minus_operand m i) (passed c x negative_refuses))

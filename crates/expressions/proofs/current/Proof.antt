@@ -20,21 +20,21 @@ returns-2 c =
 
 is-known-requires : tie.Need-is_known-requires
 is-known-requires c κs =
-    (id_below _ c.requires.0 _ (sym (c.find-found.ensures ∙ ap (id_of _) c.name.ensures) ∙ ap found_id c.in-At.is), c.requires.0.few)
+    (id_below _ c.requires.0 _ (sym (c.find-found.ensures ∙ ap (id_of _) c.name.ensures) ∙ ap found_id c.in-Some.is), c.requires.0.few)
 
 instruction-requires : tie.Need-instruction-requires
 instruction-requires c κs =
-    (c.requires.1, omega (arith, id_few _ c.requires.0 _ (sym (c.find-found.ensures ∙ ap (id_of _) c.name.ensures) ∙ ap found_id c.in-At.is)))
+    (c.requires.1, omega (arith, id_few _ c.requires.0 _ (sym (c.find-found.ensures ∙ ap (id_of _) c.name.ensures) ∙ ap found_id c.in-Some.is)))
 
 returns-3 : tie.Need-returns-then-is_known
 returns-3 c =
-    let e = sym (c.find-found.ensures ∙ ap (id_of _) c.name.ensures) ∙ ap found_id c.in-At.is in
+    let e = sym (c.find-found.ensures ∙ ap (id_of _) c.name.ensures) ∙ ap found_id c.in-Some.is in
     same_part (current-known _ _ _ (sym c.is_over_long.ensures ∙ c.if-is_over_long.false) _ e (sym c.is_known.ensures ∙ c.if-is_known.true))
     (recoded (current _) c.instruction.ensures (current-code _))
 
 returns-4 : tie.Need-returns
 returns-4 c =
-    let e = sym (c.find-found.ensures ∙ ap (id_of _) c.name.ensures) ∙ ap found_id c.in-At.is in
+    let e = sym (c.find-found.ensures ∙ ap (id_of _) c.name.ensures) ∙ ap found_id c.in-Some.is in
     refuses (refused_now (current_early _ _ _ (sym c.is_over_long.ensures ∙ c.if-is_over_long.false) _ e (sym c.is_known.ensures ∙ c.if-is_known.false)))
 
 pub current_spec : {M : Type 1} → statement M

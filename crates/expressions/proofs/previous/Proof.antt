@@ -20,11 +20,11 @@ returns-2 c =
 
 instruction-requires : tie.Need-instruction-requires
 instruction-requires c κs =
-    (c.requires.1.1, omega (arith, id_few _ c.requires.0 _ (sym (c.find-found.ensures ∙ ap (id_of _) c.name.ensures) ∙ ap found_id c.in-At.is)))
+    (c.requires.1.1, omega (arith, id_few _ c.requires.0 _ (sym (c.find-found.ensures ∙ ap (id_of _) c.name.ensures) ∙ ap found_id c.in-Some.is)))
 
 returns-3 : tie.Need-returns
 returns-3 c =
-    same_part (previous_known _ _ _ (sym c.is_over_long.ensures ∙ c.if-is_over_long.false) _ (sym (c.find-found.ensures ∙ ap (id_of _) c.name.ensures) ∙ ap found_id c.in-At.is))
+    same_part (previous_known _ _ _ (sym c.is_over_long.ensures ∙ c.if-is_over_long.false) _ (sym (c.find-found.ensures ∙ ap (id_of _) c.name.ensures) ∙ ap found_id c.in-Some.is))
     (recoded (previous _) c.instruction.ensures (previous-code _))
 
 pub previous_spec : {M : Type 1} → statement M
