@@ -31,7 +31,7 @@ use Rattle.watches.specs.Inner.Codes.{no_code, watches_told, watches_behind}
 use Rattle.translate.specs.Inner.Descent.{free_scope, tail_from}
 
 -- all names of the table, as a program holds them
-scope_free : (text starts ends : List ℕ) (count : ℕ) (names : Names) → (names.count ≡ count) × (flags_of count names.known ≡ free count) → scope_of text starts ends names ≡ free_scope text starts ends count
+pub scope_free : (text starts ends : List ℕ) (count : ℕ) (names : Names) → (names.count ≡ count) × (flags_of count names.known ≡ free count) → scope_of text starts ends names ≡ free_scope text starts ends count
 scope_free text starts ends count names e = rw (e.0, e.1)
 
 -- the watches that were read, in the scope of all names

@@ -151,11 +151,7 @@ fn count_of(byte: u8) -> usize
 }
 
 // Checks a text, measures its image and tells where its watches stand; leaves the names in the table, which has room for 64.
-pub fn analyse(
-    text: &[u8],
-    starts: &mut [usize],
-    ends: &mut [usize],
-) -> Result<Analysis, Refusal>
+pub fn analyse(text: &[u8], starts: &mut [usize], ends: &mut [usize]) -> Result<Analysis, Refusal>
     requires { TableRoom starts.old ends.old 0 }
     ensures { Analyses text.now (parse text.now) starts.new ends.new result }
 {
