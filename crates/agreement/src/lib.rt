@@ -41,37 +41,30 @@ fn compare_tokens(text: &[u8], from: usize, to: usize, at: usize) -> Step
     lexer::reached(b, 0, 0)
 }
 
-// The end of a part that stands once more, or that its bytes do not.
-#[derive(Clone, Copy)]
-enum Repetition {
-    Until(usize),
-    Other,
-}
-
 // Where the bytes of a part stand once more at `at`, the space before them apart, so do its tokens: it ends with a `]`, over which no
-// token goes on.
-fn repeated(text: &[u8], from: usize, to: usize, at: usize) -> Repetition
+// token goes on. The place after them, or nothing.
+fn repeated(text: &[u8], from: usize, to: usize, at: usize) -> Option<usize>
     requires { to ≤ length text.now }
     ensures { RepetitionBy text.now from to at result }
 {
     let first = lexer::classes::run(text, from, lexer::classes::SPACE);
     let second = lexer::classes::run(text, at, lexer::classes::SPACE);
     if to <= first {
-        return Repetition::Other;
+        return None;
     }
     let last = to - 1;
     if text[last] != 93 {
-        return Repetition::Other;
+        return None;
     }
     let size = to - first;
     if text.len() - size < second {
-        return Repetition::Other;
+        return None;
     }
     let end = second + size;
     if lexer::classes::same_bytes(lexer::name(text, first, to), lexer::name(text, second, end)) {
-        return Repetition::Until(end);
+        return Some(end);
     }
-    Repetition::Other
+    None
 }
 
 // The tokens from `from` up to `to` are wanted at `at`: compared as bytes first, which settles nearly every text that is accepted.
@@ -80,11 +73,10 @@ fn compare_part(text: &[u8], from: usize, to: usize, at: usize) -> Step
     requires tokens_in { TokensIn text.now from to }
     ensures { compared_of result ≡ part_from (length text.now) text.now from to at }
 {
-    let again = repeated(text, from, to, at);
-    let Repetition::Until(end) = again else {
-        return compare_tokens(text, from, to, at);
-    };
-    lexer::reached(end, 0, 0)
+    if let Some(end) = repeated(text, from, to, at) {
+        return lexer::reached(end, 0, 0);
+    }
+    compare_tokens(text, from, to, at)
 }
 
 // A token of a kind is wanted at `at`.
@@ -115,14 +107,12 @@ pub fn compare_lists(text: &[u8], from: &[usize], to: &[usize], count: usize, at
     requires spans_read { SpansRead text.now from.now to.now count }
     ensures { (cases : List Spanned) → spans_of cases ≡ spans_in from.now to.now count → compared_of result ≡ parts_from text.now cases at }
 {
-    let mut i = 0;
     let mut a = at;
-    while i < count {
+    for i in 0..count {
         let first = from[i];
         let last = to[i];
         let n = compare_part(text, first, last, a)?;
-        i += 1;
-        let m = compare_sign(text, separator(i, count), n.at)?;
+        let m = compare_sign(text, separator(i + 1, count), n.at)?;
         a = m.at;
     }
     lexer::reached(a, 0, 0)

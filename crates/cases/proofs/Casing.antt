@@ -177,7 +177,7 @@ module _ {sc : Scope} {w : List ℕ} {limit pick v at to : ℕ} {out₀ from upt
   refused_so d e = refuse sc w limit pick v at to out₀ d (x.same ∙ e)
 
   pub casing_fault : {from' upto' out' : List ℕ} {r : Step} {e : Refusal} → r ≡ Err e → (token_at sc.text a ≡ fault (place_of e)) × (e ≡ NoToken (place_of e)) → Answer sc w limit pick v at to out₀ from' upto' out' r
-  casing_fault {q = q} d e = refused_so (d ∙ ap (λ (y : ℕ). Err e) e.1) (cases_fault sc w x.done a (limit - count) e.0)
+  casing_fault d f = refused_so (d ∙ ap Err f.1) (cases_fault sc w x.done a (limit - count) f.0)
 
   module _ {k s n : ℕ} (f : Found sc.text a k s n) where
     pub casing_other : {from' upto' out' : List ℕ} → is (kind_of k) open_square ≡ false → Answer sc w limit pick v at to out₀ from' upto' out' (Err (NotAllowed s))
@@ -204,7 +204,7 @@ module _ {sc : Scope} {w : List ℕ} {limit pick v at to : ℕ} {out₀ from upt
 
         module _ {out' : List ℕ} {o : Place} (g : Got (code_of_case pick v) number_told end_of_condition (case_at sc w a n) t out out' o) where
           pub casing_behind : {from' upto' out'' : List ℕ} {r : Step} {e : Refusal} → r ≡ Err e → (token_at sc.text o.at ≡ fault (place_of e)) × (e ≡ NoToken (place_of e)) → Answer sc w limit pick v at to out₀ from' upto' out'' r
-          casing_behind {q = q} d h = refused_so (d ∙ ap (λ (y : ℕ). Err e) h.1) (some_left ∙ cases_behind sc w x.done a f.read i (limit - (count + 1)) g.is h.0)
+          casing_behind d h = refused_so (d ∙ ap Err h.1) (some_left ∙ cases_behind sc w x.done a f.read i (limit - (count + 1)) g.is h.0)
 
           -- one case more
           abbrev all : List Spanned

@@ -76,10 +76,10 @@ module _ (sc : Scope) (done : List Condition) (a : ℕ) where
 
 -- ---- the list and its closing bracket
 
-place_of : {A : Type 0} (x : A) (p : Parsed (Unit {0})) → place_only (and_then {B = A} (and_then {B = Unit {0}} p (λ u m. accepted tt m)) (λ u m. accepted x m)) ≡ p
+only_place : {A : Type 0} (x : A) (p : Parsed (Unit {0})) → place_only (and_then {B = A} (and_then {B = Unit {0}} p (λ u m. accepted tt m)) (λ u m. accepted x m)) ≡ p
 unfolding place_only
-place_of x (accepted u m) = refl
-place_of x (refused k q) = refl
+only_place x (accepted u m) = refl
+only_place x (refused k q) = refl
 
 module _ (sc : Scope) (at : ℕ) where
   plain_refused : {k q : ℕ} → list_from case_limit sc [] at ≡ refused k q → place_only (plain_list sc at) ≡ refused k q
@@ -88,7 +88,7 @@ module _ (sc : Scope) (at : ℕ) where
 
   plain_closed : {cs : List Condition} {n : ℕ} → list_from case_limit sc [] at ≡ accepted cs n → place_only (plain_list sc at) ≡ expected sc.text (sign close_round) n
   unfolding plain_list place_only followed phrase
-  plain_closed {cs} {n} e = rw e (place_of cs (expected sc.text (sign close_round) n))
+  plain_closed {cs} {n} e = rw e (only_place cs (expected sc.text (sign close_round) n))
 
 -- the invariant: the list is what is left of it after the conditions done
 pub record Listing (sc : Scope) (at a left : ℕ) : Type 0 where
@@ -102,7 +102,7 @@ listing_first r = record { done = []; same = refl; room = r }
 module _ {sc : Scope} {at a left : ℕ} (w : Listing sc at a left) where
   -- ... comes to a refusal
   pub listing_fault : {r : Step} {e : Refusal} → r ≡ Err e → (token_at sc.text a ≡ fault (place_of e)) × (e ≡ NoToken (place_of e)) → parsed_of nothing r ≡ place_only (plain_list sc at)
-  listing_fault d e = rw (d, e.1) (sym (plain_refused sc at (w.same ∙ list_fault sc w.done a left e.0)))
+  listing_fault d f = rw (d ∙ ap Err f.1) (sym (plain_refused sc at (w.same ∙ list_fault sc w.done a left f.0)))
 
   module _ {k s n : ℕ} (f : Found sc.text a k s n) where
     pub listing_full : is (kind_of k) open_square ≡ true → left ≡ 0 → refused too_many s ≡ place_only (plain_list sc at)

@@ -130,16 +130,15 @@ fn plain_list(text: &[u8], starts: &[usize], ends: &[usize], names: Names, at: u
 fn first_found(read: Step, m: usize) -> Step
     ensures { (p : Parsed (List Condition)) → parsed_of nothing read ≡ place_only p → parsed_of nothing result ≡ place_only (first_found p (differs m)) }
 {
-    let Step::Refused(k, p) = read else {
+    let Err(refusal) = read else {
         return Err(Refusal::ListsDiffer(m));
     };
+    let p = refusal.place();
     if p < m {
         return read;
     }
-    if p == m {
-        if k <= 5 {
-            return read;
-        }
+    if p == m && refusal.number() <= 5 {
+        return read;
     }
     Err(Refusal::ListsDiffer(m))
 }
@@ -164,8 +163,8 @@ pub fn agreeing_list(
     ensures { (cases : List Spanned) → spans_of cases ≡ spans_in from.now upto.now count → parsed_of nothing result ≡ place_only (agreeing_list (scope_of text.now starts.now ends.now names) cases at) }
 {
     let compared = agreement::compare_lists(text, from, upto, count, at);
-    let Step::Refused(_, m) = compared else {
+    let Err(refusal) = compared else {
         return compared;
     };
-    first_found(plain_list(text, starts, ends, names, at), m)
+    first_found(plain_list(text, starts, ends, names, at), refusal.place())
 }
