@@ -13,7 +13,6 @@ ghost use Rattle.clock.specs.Inner.Numbers.{SmallNumbers};
 ghost use Rattle.clock.specs.Inner.Rows.{row_for};
 
 use lexer::Found;
-use translate::Analysis;
 
 mod local;
 
@@ -87,9 +86,10 @@ fn fill_in(
     ensures row_after { after_fill result row.new ≡ fill_of text.now table.now utc row.old }
     ensures filled_within { FilledWithin result }
 {
-    let analysis = translate::analyse(text, starts, ends);
-    match analysis {
-        Analysis::Accepted(_, inputs, _, timers, _, _) => {
+    match translate::analyse(text, starts, ends) {
+        Ok(analysis) => {
+            let inputs = analysis.inputs;
+            let timers = analysis.timers;
             if !local::is_table(table) {
                 return Filled::Refused(limits::BROKEN_TABLE, 0);
             }
@@ -102,7 +102,7 @@ fn fill_in(
             fill_row(text, starts, ends, table, utc, &mut row[..inputs]);
             Filled::Done
         }
-        Analysis::Refused(number, place) => Filled::Refused(number, place),
+        Err(refusal) => Filled::Refused(refusal.number(), refusal.place()),
     }
 }
 

@@ -12,7 +12,6 @@ ghost use Rattle.replay.specs.Inner.Records.{records, record_scan, scan_rows, Kn
 use machine::lists;
 use scan::Scanned;
 use shapes::{Measured, Shaped};
-use translate::Translated;
 
 // The image's length; or the number and place of the refusal of translation or start.
 #[derive(Clone, Copy)]
@@ -192,17 +191,8 @@ pub fn replay(
         (lent image.new state.new numbers.new steps.new trace.new) }
     ensures replayed_within { ReplayedWithin result }
 {
-    let translated = translate::translate(text, image);
-    match translated {
-        Translated::Refused(number, place) => Replayed::Refused(number, place),
-        Translated::Image(n) => replay_image(
-            &image[..n],
-            state,
-            cells,
-            lengths,
-            numbers,
-            steps,
-            trace,
-        ),
+    match translate::translate(text, image) {
+        Err(refusal) => Replayed::Refused(refusal.number(), refusal.place()),
+        Ok(n) => replay_image(&image[..n], state, cells, lengths, numbers, steps, trace),
     }
 }

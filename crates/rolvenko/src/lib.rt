@@ -25,8 +25,8 @@ pub extern "C" fn rolvenko_translate(text: &[u8], image: &mut [u8]) -> u64
     ensures image_after { image.new ≡ (translation_of text.now image.old).buffer }
 {
     match translate::translate(text, image) {
-        translate::Translated::Image(length) => paused::pack(0, 0, length as u64),
-        translate::Translated::Refused(number, place) => paused::pack(number, place, 0),
+        Ok(length) => paused::pack(0, 0, length as u64),
+        Err(refusal) => paused::pack(refusal.number(), refusal.place(), 0),
     }
 }
 

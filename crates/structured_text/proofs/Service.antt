@@ -19,6 +19,7 @@ use Rattle.lexer.specs.declared.Place.{Place}
 use Rattle.lexer.specs.Results.{Step}
 use Rattle.std.specs.Prelude.{Ok, Err}
 use Rattle.limits.specs.declared.Refusal.{Refusal}
+use Rattle.limits.specs.Refusals.{number_of, place_of}
 use Rattle.lexer.proofs.Laws.{cond_prop, Moved, token_moved}
 use Rattle.semantics.specs.Program.{Name, Program, Timer}
 use Rattle.bytecode.specs.Instructions.{encode_all}
@@ -112,8 +113,8 @@ module _ (text buffer : List ℕ) where
 -- ---- an accepted text
 
 module _ (text before after starts ends : List ℕ) {r : Step} (short : length text ≤ text_limit) (d : Descends text (program text) before after starts ends r) where
-  pub fault_passed : (e : Refusal) (buffer : List ℕ) → r ≡ Err e → Served text buffer (W.Refused k x) buffer
-  fault_passed k x buffer e = text_refused text buffer k x (short_parse text short ∙ refused_part d.writes e)
+  pub fault_passed : (e : Refusal) (buffer : List ℕ) → r ≡ Err e → Served text buffer (W.Refused (number_of e) (place_of e)) buffer
+  fault_passed e buffer h = text_refused text buffer (number_of e) (place_of e) (short_parse text short ∙ refused_part d.writes h)
 
   pub compiled : (x : Place) → 3 * length text + 4 ≤ 2 * length before → r ≡ Ok x → name_limit ≤ length starts → name_limit ≤ length ends → Compiled text starts ends x.end (take x.to after)
   unfolding program_of

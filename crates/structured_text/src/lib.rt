@@ -15,7 +15,6 @@ ghost use Rattle.structured_text.specs.Results.{after_writing, WrittenWithin};
 ghost use Rattle.structured_text.specs.Inner.Prepared.{whole_printed, Compiled, ReadyToPrint};
 
 use bytecode::Headed;
-use lexer::Step;
 
 pub mod reserved;
 
@@ -160,8 +159,7 @@ fn write_in(text: &[u8], out: &mut [u8], scratch: &mut [u8], mirror: &mut [u8]) 
     let mut low = [0i32; 1];
     let mut high = [0i32; 1];
     let mut values = [0i32; limits::NAME_LIMIT];
-    let read = translate::descend(text, &mut starts, &mut ends, scratch);
-    match read {
+    match translate::descend(text, &mut starts, &mut ends, scratch) {
         Ok(end) => {
             let size = end.to;
             write_image(
@@ -177,7 +175,7 @@ fn write_in(text: &[u8], out: &mut [u8], scratch: &mut [u8], mirror: &mut [u8]) 
                 mirror,
             )
         }
-        Step::Refused(number, place) => Written::Refused(number, place),
+        Err(refusal) => Written::Refused(refusal.number(), refusal.place()),
     }
 }
 

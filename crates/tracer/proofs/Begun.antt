@@ -19,7 +19,8 @@ use Rattle.grammar.specs.Parse.{parse, answer_of, program_of}
 use Rattle.grammar.specs.Declarations.{spellings}
 use Rattle.grammar.proofs.Accepted.{name_length, parse_short, parse_named, parse_few, parse_growth, parse_translatable}
 use Rattle.grammar.proofs.Image.{image_emitted}
-use Rattle.translate.specs.declared.Translated.{Translated}
+use Rattle.std.specs.Prelude.{Result}
+use Rattle.limits.specs.declared.Refusal.{Refusal}
 use Rattle.translate.specs.Services.{AfterTranslation, translation_of}
 use Rattle.translate.specs.Results.{after_translation}
 use Rattle.translate.specs.Inner.Descent.{AnalysedText}
@@ -103,7 +104,7 @@ module _ {text starts ends : List ℕ} {size names : ℕ} (s : State) (a : Accep
   abbrev p : Program
   p = a.program
 
-  pub image_is : (buffer : List ℕ) → 49154 ≤ length buffer → (r : Translated) {left : List ℕ} → after_translation r left ≡ translation_of text buffer → take size left ≡ image_of p
+  pub image_is : (buffer : List ℕ) → 49154 ≤ length buffer → (r : Result ℕ Refusal) {left : List ℕ} → after_translation r left ≡ translation_of text buffer → take size left ≡ image_of p
   image_is buffer h r {left} e =
       let g = parse_growth text p a.place a.parsed in
       let l = parse_short text p a.place a.parsed in

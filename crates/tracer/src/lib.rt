@@ -12,7 +12,6 @@ ghost use Rattle.tracer.specs.Session.{Session, text_room, line_room, session_of
 ghost use Rattle.tracer.specs.Inner.Contracts.{Memory, AcceptedText, Begins, Opens, Takes};
 
 use trace_text::{Line, Split, Stage};
-use translate::Analysis;
 
 mod rows;
 
@@ -80,17 +79,23 @@ fn open_in(
     requires in_bounds { (49154 ≤ length image.old) × (length state.old ≡ state_limit) × (line_room ≤ length out.old) }
     ensures { Opens text.now image.new state.new out.new result.tracer result.put }
 {
-    let analysis = translate::analyse(text, starts, ends);
-    match analysis {
-        Analysis::Refused(number, place) => {
-            let put = trace_text::print::put_refused(out, 0, number as u64, place as u64);
+    match translate::analyse(text, starts, ends) {
+        Err(refusal) => {
+            let put = trace_text::print::put_refused(
+                out,
+                0,
+                refusal.number() as u64,
+                refusal.place() as u64,
+            );
             Opened {
                 tracer: Tracer::Text(Stage::Rows, 0),
                 put,
             }
         }
-        Analysis::Accepted(size, _, names, timers, _, _) => {
-            let width = names + timers;
+        Ok(analysis) => {
+            let size = analysis.length;
+            let names = analysis.names;
+            let width = names + analysis.timers;
             let put = begin_trace(
                 text,
                 image,

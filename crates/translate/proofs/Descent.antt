@@ -115,17 +115,17 @@ rules_in text d a y b few e =
 
 module _ (text before last starts ends : List ℕ) {r : Step} where
   descends_refused : (e : Refusal) → r ≡ Err e → program text ≡ refused (number_of e) (place_of e) → Descends text (program text) before last starts ends r
-  descends_refused k p d e = record { writes = refuses d e; named = λ q n h. never q n k p (sym h ∙ e); watched = λ q n x h i. never q n k p (sym h ∙ e); timed = λ q n x h i. never q n k p (sym h ∙ e) }
+  descends_refused e d h = record { writes = refuses d h; named = λ q n i. never q n _ _ (sym i ∙ h); watched = λ q n x i j. never q n _ _ (sym i ∙ h); timed = λ q n x i j. never q n _ _ (sym i ∙ h) }
 
   pub no_heading : (e : Refusal) → r ≡ Err e → heading_of text ≡ refused (number_of e) (place_of e) → Descends text (program text) before last starts ends r
-  no_heading k p d e = descends_refused k p d (program_heading text ∙ rw e)
+  no_heading e d h = descends_refused e d (program_heading text ∙ rw h)
 
   module _ (x : Declarations) (a : ℕ) (e : heading_of text ≡ accepted x a) where
-    pub no_rules : (e : Refusal) → r ≡ Err e → Refuses text (rules_from 65 x.timers (scope_after text x) [] a) (number_of e) (place_of e) → Descends text (program text) before last starts ends r
-    no_rules k p d f = descends_refused k p d (program_heading text ∙ rw e (behind_refused text _ (closed_fault text x) (rules_from 65 x.timers (scope_after text x) [] a) f))
+    pub no_rules : (k : Refusal) → r ≡ Err k → Refuses text (rules_from 65 x.timers (scope_after text x) [] a) (number_of k) (place_of k) → Descends text (program text) before last starts ends r
+    no_rules k d f = descends_refused k d (program_heading text ∙ rw e (behind_refused text _ (closed_fault text x) (rules_from 65 x.timers (scope_after text x) [] a) f))
 
-    pub no_tail : (y : Ruled) (b k p : ℕ) → rules_from 65 x.timers (scope_after text x) [] a ≡ accepted y b → r ≡ Err e → tail_from (scope_of_watches text x) y.known b ≡ refused (number_of e) (place_of e) → Descends text (program text) before last starts ends r
-    no_tail y b k p f d g = descends_refused k p d (program_heading text ∙ rw (e, f, closed_tail text x y b, g))
+    pub no_tail : (y : Ruled) (b : ℕ) (k : Refusal) → rules_from 65 x.timers (scope_after text x) [] a ≡ accepted y b → r ≡ Err k → tail_from (scope_of_watches text x) y.known b ≡ refused (number_of k) (place_of k) → Descends text (program text) before last starts ends r
+    no_tail y b k f d g = descends_refused k d (program_heading text ∙ rw (e, f, closed_tail text x y b, g))
 
 -- the bytes of an image whose counts have one byte each
 pub image_bytes : (q : Program) → q.inputs < 128 → length q.names < 128 → image q ≡ q.inputs ∷ (length q.names - q.inputs) ∷ (header q.names ++ bytes_r q.timers q.rules)

@@ -20,18 +20,26 @@ use Rattle.grammar.specs.Watches.{watches_from}
 use Rattle.grammar.specs.Parse.{end_at}
 use Rattle.expressions.specs.declared.scope.Names.{Names}
 use Rattle.expressions.specs.Inner.Scopes.{scope_of}
+use Rattle.expressions.specs.Inner.Steps.{looked_ahead}
 use Rattle.expressions.specs.Inner.Readers.{StandsAt}
 use Rattle.expressions.proofs.Steps.{Refuses, told, untold}
 use Rattle.phrases.specs.Inner.Steps.{number_told, Writes}
 use Rattle.phrases.proofs.Writing.{writes, refuses}
 use Rattle.cases.proofs.Parts.{behind_refused}
 use Rattle.rules.specs.Inner.Spans.{end_of}
-use Rattle.watches.specs.Inner.Codes.{no_code}
+use Rattle.watches.specs.Inner.Codes.{no_code, watches_told, watches_behind}
 use Rattle.translate.specs.Inner.Descent.{free_scope, tail_from}
 
 -- all names of the table, as a program holds them
 pub scope_free : (text starts ends : List ℕ) (count : ℕ) (names : Names) → (names.count ≡ count) × (flags_of count names.known ≡ free count) → scope_of text starts ends names ≡ free_scope text starts ends count
 scope_free text starts ends count names e = rw (e.0, e.1)
+
+-- the watches that were read, in the scope of all names
+pub read_free : (text starts ends : List ℕ) (count at : ℕ) (names : Names) → (names.count ≡ count) × (flags_of count names.known ≡ free count) → {r : Step}
+    → Writes no_code watches_told watches_behind (looked_ahead text (watches_from watch_limit (scope_of text starts ends names) [] at)) 0 [] [] r
+    → Writes no_code watches_told watches_behind (looked_ahead text (watches_from watch_limit (free_scope text starts ends count) [] at)) 0 [] [] r
+read_free text starts ends count at names e {r} w =
+    subst (λ (sc : Scope). Writes no_code watches_told watches_behind (looked_ahead text (watches_from watch_limit sc [] at)) 0 [] [] r) (scope_free text starts ends count names e) w
 
 -- a refusal of the watches
 pub tail_refused : (sc : Scope) (known : List Bool) (at : ℕ) {k q : ℕ} → Refuses sc.text (watches_from watch_limit sc [] at) k q → tail_from sc known at ≡ refused k q

@@ -22,16 +22,14 @@ use Rattle.grammar.proofs.PlacesText.{Placed, parse_limited}
 use Rattle.grammar.proofs.ConverseText.{short_parse}
 use Rattle.lexer.specs.declared.Place.{Place}
 use Rattle.lexer.specs.Results.{Step}
-use Rattle.std.specs.Prelude.{Ok, Err}
+use Rattle.std.specs.Prelude.{Result, Ok, Err}
 use Rattle.limits.specs.declared.Refusal.{Refusal}
-use Rattle.limits.specs.Refusals.{number_of, place_of}
+use Rattle.limits.specs.declared.Refusal.TheVariants.{TooLong, BufferTooShort}
+use Rattle.limits.specs.Refusals.{number_of, place_of, stands_for}
 use Rattle.phrases.proofs.Writing.{got, refused_part}
 use Rattle.translate.specs.declared.Analysis.{Analysis}
-use Rattle.translate.specs.declared.Analysis.TheVariants as N
-use Rattle.translate.specs.declared.Translated.{Translated}
-use Rattle.translate.specs.declared.Translated.TheVariants as T
 use Rattle.translate.specs.Services.{AfterTranslation, translated, translation_of}
-use Rattle.translate.specs.Results.{translated_answer, after_translation, TranslatedWithin}
+use Rattle.translate.specs.Results.{after_translation, TranslatedWithin}
 use Rattle.translate.specs.Inner.Descent.{WatchesStand, AnalysedText, AnalysedAs, Analyses, Descends}
 use Rattle.leb128.proofs.Stores.{sets_past, take_sets}
 use Rattle.translate.proofs.Descent.{image_bytes}
@@ -46,16 +44,16 @@ parse_long text h = rw (lt-ltb text_limit (length text) h)
 two_counts : (q : Program) → q.inputs ≤ length q.names → length q.names ≤ name_limit → sets (0 ∷ 0 ∷ []) 0 (image q) ≡ q.inputs ∷ (length q.names - q.inputs) ∷ []
 two_counts q h i = rw (image_bytes q (omega arith) (omega arith)) (sets_past (q.inputs ∷ (length q.names - q.inputs) ∷ []) 2 (header q.names ++ bytes_r q.timers q.rules) (omega arith))
 
-module _ (text last starts ends : List ℕ) {r : Step} (h : length text ≤ text_limit) (d : Descends text (program text) (0 ∷ 0 ∷ []) last starts ends r) where
+module _ (text last starts ends : List ℕ) {r : Step} (short : length text ≤ text_limit) (d : Descends text (program text) (0 ∷ 0 ∷ []) last starts ends r) where
   pub analyses_refused : (e : Refusal) → r ≡ Err e → parse text ≡ refused (number_of e) (place_of e)
-  analyses_refused k x e = short_parse text h ∙ refused_part d.writes e
+  analyses_refused e h = short_parse text short ∙ refused_part d.writes h
 
   module _ (x : Place) (e : r ≡ Ok x) {i v : ℕ} (ei : i ≡ get_or last 0 0) (ev : v ≡ get_or last 1 0) (hs : name_limit ≤ length starts) (he : name_limit ≤ length ends) where
     abbrev read : Program
     read = (got d.writes e).tree
 
     parsed : parse text ≡ accepted read x.at
-    parsed = short_parse text h ∙ (got d.writes e).is
+    parsed = short_parse text short ∙ (got d.writes e).is
 
     few : length read.names ≤ name_limit
     few = parse_few text read x.at parsed
@@ -78,7 +76,7 @@ module _ (text last starts ends : List ℕ) {r : Step} (h : length text ≤ text
         let w = (d.watched read x.at x (got d.writes e).is e).1 in
         let t = (d.named read x.at (got d.writes e).is).spelled in
         record {
-          short = h;
+          short = short;
           within = w.within;
           few = omega (arith, total, few);
           table = record { in_starts = omega (arith, total, few, hs); in_ends = omega (arith, total, few, he) };
@@ -104,26 +102,26 @@ module _ (text last starts ends : List ℕ) {r : Step} (h : length text ≤ text
 
 -- ---- what the analysis says of the text
 
-module _ {text : List ℕ} {p : Parsed Program} {starts ends : List ℕ} {r : Analysis} (a : Analyses text p starts ends r) where
-  pub analysed_text : {size inputs names timers at count : ℕ} → r ≡ N.Accepted size inputs names timers at count → AnalysedText text p starts ends size inputs names timers at count
+module _ {text : List ℕ} {p : Parsed Program} {starts ends : List ℕ} {r : Result Analysis Refusal} (a : Analyses text p starts ends r) where
+  pub analysed_text : {x : Analysis} → r ≡ Ok x → AnalysedText text p starts ends x.length x.inputs x.names x.timers x.rules_end x.watches
   analysed_text e = subst (AnalysedAs text p starts ends) e a.so
 
-  pub analysed_refused : {k q : ℕ} → r ≡ N.Refused k q → p ≡ refused k q
-  analysed_refused e = subst (AnalysedAs text p starts ends) e a.so
+  pub analysed_refused : {e : Refusal} → r ≡ Err e → p ≡ refused (number_of e) (place_of e)
+  analysed_refused h = subst (AnalysedAs text p starts ends) h a.so
 
 -- ---- the service's definition
 
 module _ (text buffer : List ℕ) where
-  pub translation_refused : (k x : ℕ) → parse text ≡ refused k x → after_translation (T.Refused k x) buffer ≡ translation_of text buffer
+  pub translation_refused : (e : Refusal) → parse text ≡ refused (number_of e) (place_of e) → after_translation (Err e) buffer ≡ translation_of text buffer
   unfolding translation_of program_of
-  translation_refused k x e = rw e
+  translation_refused e h = rw h
 
   module _ (q : Program) (n : ℕ) (e : parse text ≡ accepted q n) where
-    pub translation_short : length buffer < length (image q) → after_translation (T.Refused 10 (length text)) buffer ≡ translation_of text buffer
+    pub translation_short : length buffer < length (image q) → after_translation (Err (BufferTooShort (length text))) buffer ≡ translation_of text buffer
     unfolding translation_of program_of
     translation_short h = rw (e, ← image_emitted, lt-leb (length (image q)) (length buffer) h)
 
-    pub translation_stored : (left : List ℕ) → length (image q) ≤ length buffer → left ≡ image q ++ drop (length (image q)) buffer → after_translation (T.Image (length (image q))) left ≡ translation_of text buffer
+    pub translation_stored : (left : List ℕ) → length (image q) ≤ length buffer → left ≡ image q ++ drop (length (image q)) buffer → after_translation (Ok (length (image q))) left ≡ translation_of text buffer
     unfolding translation_of program_of
     translation_stored left h w = rw (e, ← image_emitted, le-leb (length (image q)) (length buffer) h, w)
 
@@ -146,21 +144,21 @@ translation_small text buffer = go (parse text) refl (parse_limited text)
     go (accepted p n) e h = room p (parse_translatable text p n e).short (accepted-short text p n e) (leb (length (image_of p)) (length buffer))
     go (refused k q) e h = h.1
 
-pub translation_within : (text buffer : List ℕ) (r : Translated) (left : List ℕ) → after_translation r left ≡ translation_of text buffer → TranslatedWithin r
+pub translation_within : (text buffer : List ℕ) (r : Result ℕ Refusal) (left : List ℕ) → after_translation r left ≡ translation_of text buffer → TranslatedWithin r
 translation_within text buffer r left e = go r (subst Small (sym (ap {A = AfterTranslation} (λ x. x.answer) e)) (translation_small text buffer))
   where
-    go : (r : Translated) → Small (translated_answer r) → TranslatedWithin r
-    go (T.Image n) h = h
-    go (T.Refused number place) h = h
+    go : (r : Result ℕ Refusal) → Small (stands_for r) → TranslatedWithin r
+    go (Ok n) h = h
+    go (Err e) h = h
 
 -- what is the definition's answer is as small as that
-bounded : (text buffer : List ℕ) (r : Translated) (left : List ℕ) → after_translation r left ≡ translation_of text buffer → (after_translation r left ≡ translation_of text buffer) × TranslatedWithin r
+bounded : (text buffer : List ℕ) (r : Result ℕ Refusal) (left : List ℕ) → after_translation r left ≡ translation_of text buffer → (after_translation r left ≡ translation_of text buffer) × TranslatedWithin r
 bounded text buffer r left e = (e, translation_within text buffer r left e)
 
 -- ---- the service's ways
 
-pub long_refused : (text buffer : List ℕ) → text_limit < length text → (after_translation (T.Refused 9 0) buffer ≡ translation_of text buffer) × TranslatedWithin (T.Refused 9 0)
-long_refused text buffer h = bounded text buffer (T.Refused 9 0) buffer (translation_refused text buffer 9 0 (parse_long text h))
+pub long_refused : (text buffer : List ℕ) → text_limit < length text → (after_translation (Err TooLong) buffer ≡ translation_of text buffer) × TranslatedWithin (Err TooLong)
+long_refused text buffer h = bounded text buffer (Err TooLong) buffer (translation_refused text buffer TooLong (parse_long text h))
 
 -- a descent over memory with room for the image: the image stands in front
 pub record Made (text scratch : List ℕ) (size : ℕ) : Type 0 where
@@ -172,8 +170,8 @@ pub record Made (text scratch : List ℕ) (size : ℕ) : Type 0 where
   pub there : take size scratch ≡ image read
 
 module _ (text before after starts ends : List ℕ) {r : Step} (short : length text ≤ text_limit) (d : Descends text (program text) before after starts ends r) where
-  pub fault_passed : (e : Refusal) (buffer : List ℕ) → r ≡ Err e → (after_translation (T.Refused k x) buffer ≡ translation_of text buffer) × TranslatedWithin (T.Refused k x)
-  fault_passed k x buffer e = bounded text buffer (T.Refused k x) buffer (translation_refused text buffer k x (short_parse text short ∙ refused_part d.writes e))
+  pub fault_passed : (e : Refusal) (buffer : List ℕ) → r ≡ Err e → (after_translation (Err e) buffer ≡ translation_of text buffer) × TranslatedWithin (Err e)
+  fault_passed e buffer h = bounded text buffer (Err e) buffer (translation_refused text buffer e (short_parse text short ∙ refused_part d.writes h))
 
   pub image_made : (x : Place) → 3 * length text + 4 ≤ 2 * length before → r ≡ Ok x → Made text after x.to
   image_made x h e =
@@ -192,10 +190,10 @@ module _ (text before after starts ends : List ℕ) {r : Step} (short : length t
       }
 
 module _ {text scratch : List ℕ} {size : ℕ} (m : Made text scratch size) (buffer : List ℕ) where
-  pub made_short : length buffer < size → (after_translation (T.Refused 10 (length text)) buffer ≡ translation_of text buffer) × TranslatedWithin (T.Refused 10 (length text))
-  made_short h = bounded text buffer (T.Refused 10 (length text)) buffer (translation_short text buffer m.read m.end m.parsed (omega (arith, m.measure)))
+  pub made_short : length buffer < size → (after_translation (Err (BufferTooShort (length text))) buffer ≡ translation_of text buffer) × TranslatedWithin (Err (BufferTooShort (length text)))
+  made_short h = bounded text buffer (Err (BufferTooShort (length text))) buffer (translation_short text buffer m.read m.end m.parsed (omega (arith, m.measure)))
 
   pub made_stored : (left : List ℕ) → size ≤ length buffer → left ≡ take size scratch ++ drop (length (take size scratch)) buffer
-      → (after_translation (T.Image size) left ≡ translation_of text buffer) × TranslatedWithin (T.Image size)
+      → (after_translation (Ok size) left ≡ translation_of text buffer) × TranslatedWithin (Ok size)
   made_stored left h w =
-      rw m.measure (bounded text buffer (T.Image (length (image m.read))) left (translation_stored text buffer m.read m.end m.parsed left (omega (arith, m.measure)) (w ∙ rw m.there)))
+      rw m.measure (bounded text buffer (Ok (length (image m.read))) left (translation_stored text buffer m.read m.end m.parsed left (omega (arith, m.measure)) (w ∙ rw m.there)))

@@ -193,7 +193,7 @@ module _ (text before mid after e0 s1 e1 s2 e2 : List ℕ) (a t c b u m : ℕ) (
     same_parse = rw (x.counted, y.counted)
 
     pub heading_refused : {e : Refusal} → r ≡ Err e → heading_of text ≡ refused (number_of e) (place_of e)
-    heading_refused {k} {q} g = timers_refused text x.all a x.read y.all b y.read k q (sym same_parse ∙ refused_part d.writes g)
+    heading_refused g = timers_refused text x.all a x.read y.all b y.read _ _ (sym same_parse ∙ refused_part d.writes g)
 
     pub heading_read : {p : Place} → r ≡ Ok p → HeadingRead text before last s3 e3 watched limits p.at p.to c p.number m
     unfolding timers_header
@@ -223,13 +223,13 @@ module _ (text before mid after e0 s1 e1 s2 e2 : List ℕ) (a t c b u m : ℕ) (
 -- ---- the answer
 
 pub refused_heading : (text before after' starts ends watched limits : List ℕ) {r : Step} {e : Refusal} → r ≡ Err e → heading_of text ≡ refused (number_of e) (place_of e) → ReadsHeading text before after' starts ends watched limits r
-refused_heading text before after' starts ends watched limits {k = k} {q = q} g e = record { refuses = λ l p h. e ∙ passed (sym g ∙ h); reads = λ x h. step_refused k q x (sym g ∙ h) }
+refused_heading text before after' starts ends watched limits g f = record { refuses = λ k h. f ∙ passed (sym g ∙ h); reads = λ x h. step_refused (sym g ∙ h) }
   where
-    passed : {e : Refusal} → Err e ≡ Err e → ◌≡◌ {A = Parsed Declarations} (refused (number_of e) (place_of e)) (refused (number_of e) (place_of e))
-    passed h = cc
+    passed : {k l : Refusal} → ◌≡◌ {A = Step} (Err k) (Err l) → ◌≡◌ {A = Parsed Declarations} (refused (number_of k) (place_of k)) (refused (number_of l) (place_of l))
+    passed {k} {l} h = let i : k ≡ l = cc in ap (λ (x : Refusal). refused (number_of x) (place_of x)) i
 
 pub done_heading : (text before after' starts ends watched limits : List ℕ) {r : Step} {x : Place} → r ≡ Ok x → HeadingRead text before after' starts ends watched limits x.at x.to x.start x.number x.end → ReadsHeading text before after' starts ends watched limits r
 done_heading text before after' starts ends watched limits {x = x} g d = record {
-  refuses = λ k q h. step_refused k q x (sym h ∙ g);
+  refuses = λ k h. step_refused (sym h ∙ g);
   reads = λ y h. subst (λ (z : Place). HeadingRead text before after' starts ends watched limits z.at z.to z.start z.number z.end) (done_place (sym g ∙ h)) d;
 }

@@ -1,21 +1,15 @@
 -- What the answers of translate stand for: document 01's number and place. Assumes nothing.
-use Rattle.std.specs.Prelude.{ℕ, ◌≤◌, List}
+use Rattle.std.specs.Prelude.{ℕ, ◌≤◌, List, Result, Ok, Err}
 use Rattle.limits.specs.Limits.{text_limit, image_limit}
-use Rattle.limits.specs.Answer.{Answer, accepted, refused}
-use Rattle.translate.specs.declared.Translated.{Translated}
-use Rattle.translate.specs.declared.Translated.TheVariants as T
+use Rattle.limits.specs.declared.Refusal.{Refusal}
+use Rattle.limits.specs.Refusals.{place_of, stands_for}
 use Rattle.translate.specs.Services.{AfterTranslation}
 
--- `Image` holds the image's length, `Refused` the number and the place.
-abbrev pub translated_answer : Translated → Answer ℕ
-translated_answer (T.Image n) = accepted n
-translated_answer (T.Refused number place) = refused number place
-
--- the answer with the buffer that is left
-abbrev pub after_translation : Translated → List ℕ → AfterTranslation
-after_translation r left = record { answer = translated_answer r; buffer = left }
+-- the answer, the image's length or a refusal, with the buffer that is left
+abbrev pub after_translation : Result ℕ Refusal → List ℕ → AfterTranslation
+after_translation r left = record { answer = stands_for r; buffer = left }
 
 -- how large these numbers are, which the C functions pack into 64 bits
-abbrev pub TranslatedWithin : Translated → Type 0
-TranslatedWithin (T.Image n) = n ≤ image_limit
-TranslatedWithin (T.Refused number place) = place ≤ text_limit
+abbrev pub TranslatedWithin : Result ℕ Refusal → Type 0
+TranslatedWithin (Ok n) = n ≤ image_limit
+TranslatedWithin (Err e) = place_of e ≤ text_limit

@@ -19,20 +19,18 @@ ghost use Rattle.translate.specs.Inner.Descent.{free_scope, tail_from, ReadsHead
 
 use expressions::scope::Names;
 use lexer::{Place, Step};
+use limits::Refusal;
 
-// The image's length; the counts of inputs, of names and of timers among them; the place where the rules end, and the count of the watches
-// there. Or a refusal's number and place.
+// What an accepted text has: the image's length; how many inputs, names and timers among the names; the place where the rules end, and
+// how many watches there are behind it.
 #[derive(Clone, Copy)]
-pub enum Analysis {
-    Accepted(usize, usize, usize, usize, usize, usize),
-    Refused(u8, usize),
-}
-
-// The image's length, or a refusal's number and place.
-#[derive(Clone, Copy)]
-pub enum Translated {
-    Image(usize),
-    Refused(u8, usize),
+pub struct Analysis {
+    pub length: usize,
+    pub inputs: usize,
+    pub names: usize,
+    pub timers: usize,
+    pub rules_end: usize,
+    pub watches: usize,
 }
 
 // The watches and the end of the text, from the token behind the rules on. The number told is how many watches there are.
@@ -153,24 +151,26 @@ fn count_of(byte: u8) -> usize
 }
 
 // Checks a text, measures its image and tells where its watches stand; leaves the names in the table, which has room for 64.
-pub fn analyse(text: &[u8], starts: &mut [usize], ends: &mut [usize]) -> Analysis
+pub fn analyse(text: &[u8], starts: &mut [usize], ends: &mut [usize]) -> Result<Analysis, Refusal>
     requires { TableRoom starts.old ends.old 0 }
     ensures { Analyses text.now (parse text.now) starts.new ends.new result }
 {
     if limits::TEXT_LIMIT < text.len() {
-        return Analysis::Refused(limits::TOO_LONG, 0);
+        return Err(Refusal::TooLong);
     }
     // room for the two counts
     let mut counts = [0u8; 2];
-    let read = descend(text, starts, ends, &mut counts);
+    let end = descend(text, starts, ends, &mut counts)?;
     let inputs = count_of(counts[0]);
     let names = inputs + count_of(counts[1]);
-    match read {
-        Ok(end) => {
-            Analysis::Accepted(end.to, inputs, names, end.end, end.start, end.number)
-        }
-        Step::Refused(number, place) => Analysis::Refused(number, place),
-    }
+    Ok(Analysis {
+        length: end.to,
+        inputs,
+        names,
+        timers: end.end,
+        rules_end: end.start,
+        watches: end.number,
+    })
 }
 
 // `from`, written over the front of `to`.
@@ -192,28 +192,23 @@ fn translate_in(
     starts: &mut [usize],
     ends: &mut [usize],
     scratch: &mut [u8],
-) -> Translated
+) -> Result<usize, Refusal>
     requires table_room { TableRoom starts.old ends.old 0 }
     requires text_len_bound { (length text.now ≤ text_limit) × (3 * length text.now + 4 ≤ 2 * length scratch.old) }
     ensures image_after { after_translation result image.new ≡ translation_of text.now image.old }
     ensures translated_within { TranslatedWithin result }
 {
-    let read = descend(text, starts, ends, scratch);
-    match read {
-        Ok(end) => {
-            let size = end.to;
-            if image.len() < size {
-                return Translated::Refused(limits::BUFFER_TOO_SHORT, text.len());
-            }
-            store(image, &scratch[..size]);
-            Translated::Image(size)
-        }
-        Step::Refused(number, place) => Translated::Refused(number, place),
+    let end = descend(text, starts, ends, scratch)?;
+    let size = end.to;
+    if image.len() < size {
+        return Err(Refusal::BufferTooShort(text.len()));
     }
+    store(image, &scratch[..size]);
+    Ok(size)
 }
 
 // A text of at most 1,024 bytes, whose image has at most 1,538: clearing the scratch memory would else take longer than the descent.
-fn translate_short(text: &[u8], image: &mut [u8]) -> Translated
+fn translate_short(text: &[u8], image: &mut [u8]) -> Result<usize, Refusal>
     requires { length text.now ≤ 1024 }
     ensures image_after { after_translation result image.new ≡ translation_of text.now image.old }
     ensures translated_within { TranslatedWithin result }
@@ -225,7 +220,7 @@ fn translate_short(text: &[u8], image: &mut [u8]) -> Translated
 }
 
 // Likewise a text of at most 8,192 bytes, whose image has at most 12,290.
-fn translate_middle(text: &[u8], image: &mut [u8]) -> Translated
+fn translate_middle(text: &[u8], image: &mut [u8]) -> Result<usize, Refusal>
     requires { length text.now ≤ 8192 }
     ensures image_after { after_translation result image.new ≡ translation_of text.now image.old }
     ensures translated_within { TranslatedWithin result }
@@ -237,7 +232,7 @@ fn translate_middle(text: &[u8], image: &mut [u8]) -> Translated
 }
 
 // No image of a text has over 49,154 bytes.
-fn translate_any(text: &[u8], image: &mut [u8]) -> Translated
+fn translate_any(text: &[u8], image: &mut [u8]) -> Result<usize, Refusal>
     requires { length text.now ≤ text_limit }
     ensures image_after { after_translation result image.new ≡ translation_of text.now image.old }
     ensures translated_within { TranslatedWithin result }
@@ -248,7 +243,8 @@ fn translate_any(text: &[u8], image: &mut [u8]) -> Translated
     translate_in(text, image, &mut starts, &mut ends, &mut scratch)
 }
 
-pub fn translate(text: &[u8], image: &mut [u8]) -> Translated
+// The image's length, or a refusal.
+pub fn translate(text: &[u8], image: &mut [u8]) -> Result<usize, Refusal>
     ensures image_after { after_translation result image.new ≡ translation_of text.now image.old }
     ensures translated_within { TranslatedWithin result }
 {
@@ -261,5 +257,5 @@ pub fn translate(text: &[u8], image: &mut [u8]) -> Translated
     if text.len() <= limits::TEXT_LIMIT {
         return translate_any(text, image);
     }
-    Translated::Refused(limits::TOO_LONG, 0)
+    Err(Refusal::TooLong)
 }

@@ -17,8 +17,6 @@ ghost use Rattle.watch.specs.Results.{after_watch, WatchedWithin};
 ghost use Rattle.watch.specs.Inner.Reports.{FailedWithin, WatchCode, CountedWatches};
 
 use evaluation::Failed;
-use lexer::Step;
-use translate::Analysis;
 
 // How many watches there are, each with its report; or a refusal's number and place.
 #[derive(Clone, Copy)]
@@ -129,9 +127,11 @@ fn watch_in(
     ensures watched_within { WatchedWithin result }
 {
     match translate::analyse(text, starts, ends) {
-        Analysis::Accepted(_, _, names, timers, at, count) => {
+        Ok(analysis) => {
+            let names = analysis.names;
+            let count = analysis.watches;
             // a state: the value of each name, then the elapsed time of each timer
-            let size = names + timers;
+            let size = names + analysis.timers;
             if !lent::is_trace(trace, size) {
                 return Watched::Refused(limits::WRONG_LENGTH, 0);
             }
@@ -139,11 +139,21 @@ fn watch_in(
                 return Watched::Refused(limits::WRONG_LENGTH, 0);
             }
             reports(
-                text, starts, ends, names, at, count, trace, size, report, code, vals,
+                text,
+                starts,
+                ends,
+                names,
+                analysis.rules_end,
+                count,
+                trace,
+                size,
+                report,
+                code,
+                vals,
             );
             Watched::Count(count)
         }
-        Analysis::Refused(number, place) => Watched::Refused(number, place),
+        Err(refusal) => Watched::Refused(refusal.number(), refusal.place()),
     }
 }
 

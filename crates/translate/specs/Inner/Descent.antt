@@ -15,14 +15,13 @@ use Rattle.grammar.specs.Parse.{end_at}
 use Rattle.grammar.specs.Inner.Bytes.{header, image}
 use Rattle.lexer.specs.declared.Place.{Place}
 use Rattle.lexer.specs.Results.{Step}
-use Rattle.std.specs.Prelude.{Ok, Err}
+use Rattle.std.specs.Prelude.{Result, Ok, Err}
 use Rattle.limits.specs.declared.Refusal.{Refusal}
 use Rattle.limits.specs.Refusals.{number_of, place_of}
 use Rattle.phrases.specs.Inner.Steps.{nothing, Writes}
 use Rattle.declarations.specs.Inner.Tables.{TableHolds}
 use Rattle.rules.specs.Inner.Timers.{timers_in}
 use Rattle.translate.specs.declared.Analysis.{Analysis}
-use Rattle.translate.specs.declared.Analysis.TheVariants as N
 
 -- the names declared, how many of them are inputs, and the timers among them
 pub record Declarations : Type 0 where
@@ -107,10 +106,10 @@ pub record AnalysedText (text : List ℕ) (p : Parsed Program) (starts ends : Li
   pub held : TableHolds text starts ends (length program.names) program.names
   pub stand : WatchesStand text starts ends names at program.watches
 
-abbrev pub AnalysedAs : List ℕ → Parsed Program → List ℕ → List ℕ → Analysis → Type 0
-AnalysedAs text p starts ends (N.Accepted size inputs names timers at count) = AnalysedText text p starts ends size inputs names timers at count
-AnalysedAs text p starts ends (N.Refused k q) = p ≡ refused k q
+abbrev pub AnalysedAs : List ℕ → Parsed Program → List ℕ → List ℕ → Result Analysis Refusal → Type 0
+AnalysedAs text p starts ends (Ok x) = AnalysedText text p starts ends x.length x.inputs x.names x.timers x.rules_end x.watches
+AnalysedAs text p starts ends (Err e) = p ≡ refused (number_of e) (place_of e)
 
 -- the whole text without a buffer, its limit tested first
-pub record Analyses (text : List ℕ) (p : Parsed Program) (starts ends : List ℕ) (r : Analysis) : Type 0 where
+pub record Analyses (text : List ℕ) (p : Parsed Program) (starts ends : List ℕ) (r : Result Analysis Refusal) : Type 0 where
   pub so : AnalysedAs text p starts ends r
