@@ -25,7 +25,10 @@ use Rattle.grammar.proofs.Accepted.{parse_translatable, parse_few}
 use Rattle.grammar.proofs.PlacesText.{Placed, parse_limited}
 use Rattle.translate.specs.Inner.Descent.{AnalysedText}
 use Rattle.expressions.proofs.Scopes.{names_length}
-use Rattle.clock.specs.declared.Filled.TheVariants as F
+use Rattle.std.specs.Prelude.{Ok, Err}
+use Rattle.limits.specs.declared.Refusal.{Refusal}
+use Rattle.limits.specs.declared.Refusal.TheVariants.{BrokenTable, MinuteOutOfLimit, WrongLength}
+use Rattle.limits.specs.Refusals.{number_of, place_of}
 use Rattle.clock.specs.Clock.{Entry, entries_of, is_minute, is_table, local_at, day_of, minute_of, again_of}
 use Rattle.clock.specs.Services.{inputs_of, filled_at, row_filled, fill_of}
 use Rattle.clock.specs.Inner.Rows.{row_for}
@@ -131,26 +134,26 @@ minute_fits (pos n) e = let h : n ≤ 2147483647 = leb-true n 2147483647 (and_bo
 minute_fits (negsuc n) e = let z : ◌≡◌ {A = ℕ} 0 1 = cc in absurd (omega arith)
 
 module _ (text : List ℕ) (table : List ℤ) (utc : ℤ) (row : List ℤ) where
-  pub text_refused : (k x : ℕ) → parse text ≡ refused k x → (after_fill (F.Refused k x) row ≡ fill_of text table utc row) × FilledWithin (F.Refused k x)
+  pub text_refused : (e : Refusal) → parse text ≡ refused (number_of e) (place_of e) → (after_fill (Err e) row ≡ fill_of text table utc row) × FilledWithin (Err e)
   unfolding fill_of program_of
-  text_refused k x e = (rw e, (subst (Placed text_limit) e (parse_limited text)).1)
+  text_refused x e = (rw e, (subst (Placed text_limit) e (parse_limited text)).1)
 
   module _ {starts ends : List ℕ} {size inputs names timers at count : ℕ} (d : AnalysedText text (parse text) starts ends size inputs names timers at count) where
-    pub table_refused : is_table table ≡ false → after_fill (F.Refused 19 0) row ≡ fill_of text table utc row
+    pub table_refused : is_table table ≡ false → after_fill (Err BrokenTable) row ≡ fill_of text table utc row
     unfolding fill_of program_of
     table_refused e = rw (d.parsed, e)
 
     module _ (ok : is_table table ≡ true) where
-      pub minute_refused : is_minute utc ≡ false → after_fill (F.Refused 20 0) row ≡ fill_of text table utc row
+      pub minute_refused : is_minute utc ≡ false → after_fill (Err MinuteOutOfLimit) row ≡ fill_of text table utc row
       unfolding fill_of program_of
       minute_refused e = rw (d.parsed, ok, e)
 
       module _ (now : is_minute utc ≡ true) where
-        pub length_refused : (length row ≡ row_for inputs timers → ⊥) → after_fill (F.Refused 12 0) row ≡ fill_of text table utc row
+        pub length_refused : (length row ≡ row_for inputs timers → ⊥) → after_fill (Err WrongLength) row ≡ fill_of text table utc row
         unfolding fill_of program_of
         length_refused e = rw (d.parsed, ok, now, ne_eqb (length row) (row_length (shape_of d.program)) (λ h. e (h ∙ sym (row_sized d))))
 
-        pub all_filled : (front : List ℤ) → length row ≡ row_for inputs timers → front ≡ row_filled (table_names text starts ends (length (take inputs row))) (entries_of table) utc (take inputs row) → after_fill F.Done (front ++ drop inputs row) ≡ fill_of text table utc row
+        pub all_filled : (front : List ℤ) → length row ≡ row_for inputs timers → front ≡ row_filled (table_names text starts ends (length (take inputs row))) (entries_of table) utc (take inputs row) → after_fill (Ok tt) (front ++ drop inputs row) ≡ fill_of text table utc row
         unfolding fill_of program_of
         all_filled front e w =
             let k : length (take inputs row) ≡ inputs = front_length row inputs timers e in

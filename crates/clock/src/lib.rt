@@ -12,16 +12,9 @@ ghost use Rattle.clock.specs.Results.{after_fill, FilledWithin};
 ghost use Rattle.clock.specs.Inner.Numbers.{SmallNumbers};
 ghost use Rattle.clock.specs.Inner.Rows.{row_for};
 
-use lexer::Found;
-
 mod local;
 
-// Filled, or the number of a refusal and its place.
-#[derive(Clone, Copy)]
-pub enum Filled {
-    Done,
-    Refused(u8, usize),
-}
+use limits::Refusal;
 
 // The value of the input of a name, where it is declared.
 fn fill_named(
@@ -35,12 +28,8 @@ fn fill_named(
     requires { Table starts.now ends.now (length row.old) }
     ensures { row.new ≡ filled_at (id_of (table_names text.now starts.now ends.now (length row.old)) name.now) value row.old }
 {
-    let found = lexer::find(text, starts, ends, row.len(), name);
-    match found {
-        Some(id) => {
-            row[id] = value;
-        }
-        None => {}
+    if let Some(id) = lexer::find(text, starts, ends, row.len(), name) {
+        row[id] = value;
     }
 }
 
@@ -81,32 +70,27 @@ fn fill_in(
     row: &mut [i32],
     starts: &mut [usize],
     ends: &mut [usize],
-) -> Filled
+) -> Result<(), Refusal>
     requires { TableRoom starts.old ends.old 0 }
     ensures row_after { after_fill result row.new ≡ fill_of text.now table.now utc row.old }
     ensures filled_within { FilledWithin result }
 {
-    match translate::analyse(text, starts, ends) {
-        Ok(analysis) => {
-            let inputs = analysis.inputs;
-            let timers = analysis.timers;
-            if !local::is_table(table) {
-                return Filled::Refused(limits::BROKEN_TABLE, 0);
-            }
-            if !local::is_minute(utc) {
-                return Filled::Refused(limits::MINUTE_OUT_OF_LIMIT, 0);
-            }
-            if row.len() != row_length(inputs, timers) {
-                return Filled::Refused(limits::WRONG_LENGTH, 0);
-            }
-            fill_row(text, starts, ends, table, utc, &mut row[..inputs]);
-            Filled::Done
-        }
-        Err(refusal) => Filled::Refused(refusal.number(), refusal.place()),
+    let analysis = translate::analyse(text, starts, ends)?;
+    if !local::is_table(table) {
+        return Err(Refusal::BrokenTable);
     }
+    if !local::is_minute(utc) {
+        return Err(Refusal::MinuteOutOfLimit);
+    }
+    let inputs = analysis.inputs;
+    if row.len() != row_length(inputs, analysis.timers) {
+        return Err(Refusal::WrongLength);
+    }
+    fill_row(text, starts, ends, table, utc, &mut row[..inputs]);
+    Ok(())
 }
 
-pub fn fill(text: &[u8], table: &[i64], utc: i64, row: &mut [i32]) -> Filled
+pub fn fill(text: &[u8], table: &[i64], utc: i64, row: &mut [i32]) -> Result<(), Refusal>
     ensures row_after { after_fill result row.new ≡ fill_of text.now table.now utc row.old }
     ensures filled_within { FilledWithin result }
 {

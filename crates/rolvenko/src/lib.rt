@@ -36,8 +36,8 @@ pub extern "C" fn rolvenko_structured_text(text: &[u8], out: &mut [u8]) -> u64
     ensures out_after { out.new ≡ (structured_text_of text.now out.old).buffer }
 {
     match structured_text::structured_text(text, out) {
-        structured_text::Written::Text(length) => paused::pack(0, 0, length as u64),
-        structured_text::Written::Refused(number, place) => paused::pack(number, place, 0),
+        Ok(length) => paused::pack(0, 0, length as u64),
+        Err(refusal) => paused::pack(refusal.number(), refusal.place(), 0),
     }
 }
 
@@ -107,8 +107,8 @@ pub extern "C" fn rolvenko_clock(text: &[u8], table: &[i64], utc: i64, row: &mut
     ensures row_after { row.new ≡ (fill_of text.now table.now utc row.old).row }
 {
     match clock::fill(text, table, utc, row) {
-        clock::Filled::Done => 0,
-        clock::Filled::Refused(number, place) => paused::pack(number, place, 0),
+        Ok(()) => 0,
+        Err(refusal) => paused::pack(refusal.number(), refusal.place(), 0),
     }
 }
 
@@ -245,7 +245,7 @@ pub extern "C" fn rolvenko_watch(text: &[u8], trace: &[i32], report: &mut [i64])
     ensures report_after { report.new ≡ (watch_of text.now trace.now report.old).report }
 {
     match watch::watch(text, trace, report) {
-        watch::Watched::Count(count) => paused::pack(0, 0, count as u64),
-        watch::Watched::Refused(number, place) => paused::pack(number, place, 0),
+        Ok(count) => paused::pack(0, 0, count as u64),
+        Err(refusal) => paused::pack(refusal.number(), refusal.place(), 0),
     }
 }

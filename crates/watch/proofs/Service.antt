@@ -21,7 +21,10 @@ use Rattle.grammar.proofs.PlacesText.{Placed, parse_limited}
 use Rattle.watching.specs.Watching.{places_of, first_failure}
 use Rattle.leb128.proofs.Stores.{sets_front}
 use Rattle.translate.specs.Inner.Descent.{AnalysedText}
-use Rattle.watch.specs.declared.Watched.TheVariants as W
+use Rattle.std.specs.Prelude.{Ok, Err}
+use Rattle.limits.specs.declared.Refusal.{Refusal}
+use Rattle.limits.specs.declared.Refusal.TheVariants.{WrongLength}
+use Rattle.limits.specs.Refusals.{number_of, place_of}
 use Rattle.watch.specs.Services.{reported, report_of, watched_states, watch_of}
 use Rattle.watch.specs.Results.{after_watch, WatchedWithin}
 use Rattle.watch.specs.Inner.Reports.{CountedWatches}
@@ -47,20 +50,20 @@ module _ {text starts ends : List ℕ} {size inputs names timers at count : ℕ}
 -- ---- the answers
 
 module _ (text : List ℕ) (cells report : List ℤ) where
-  pub watch_refused : (k q : ℕ) → parse text ≡ refused k q → (after_watch (W.Refused k q) report ≡ watch_of text cells report) × WatchedWithin (W.Refused k q)
+  pub watch_refused : (e : Refusal) → parse text ≡ refused (number_of e) (place_of e) → (after_watch (Err e) report ≡ watch_of text cells report) × WatchedWithin (Err e)
   unfolding watch_of program_of
-  watch_refused k q e = (rw e, (subst (Placed text_limit) e (parse_limited text)).1)
+  watch_refused x e = (rw e, (subst (Placed text_limit) e (parse_limited text)).1)
 
   module _ {starts ends : List ℕ} {size inputs names timers at count : ℕ} (x : AnalysedText text (parse text) starts ends size inputs names timers at count) where
     watch_tested : watch_of text cells report ≡ cond (is_trace (names + timers) cells && eqb (length report) report_length) (watched_states x.program.watches (traced_states (names + timers) cells) report) (record { answer = A.refused 12 0; report = report })
     unfolding watch_of program_of
     watch_tested = rw (x.parsed, sized x)
 
-    pub watch_cut : is_trace (names + timers) cells ≡ false → (after_watch (W.Refused 12 0) report ≡ watch_of text cells report) × WatchedWithin (W.Refused 12 0)
+    pub watch_cut : is_trace (names + timers) cells ≡ false → (after_watch (Err WrongLength) report ≡ watch_of text cells report) × WatchedWithin (Err WrongLength)
     watch_cut e = (sym (watch_tested ∙ rw e), omega arith)
 
     module _ (e : is_trace (names + timers) cells ≡ true) where
-      pub watch_misfit : (length report ≡ 16 → ⊥) → (after_watch (W.Refused 12 0) report ≡ watch_of text cells report) × WatchedWithin (W.Refused 12 0)
+      pub watch_misfit : (length report ≡ 16 → ⊥) → (after_watch (Err WrongLength) report ≡ watch_of text cells report) × WatchedWithin (Err WrongLength)
       watch_misfit f = (sym (watch_tested ∙ rw (e, ne_eqb (length report) 16 f)), omega arith)
 
       module _ (f : length report ≡ 16) where
@@ -73,7 +76,7 @@ module _ (text : List ℕ) (cells report : List ℤ) where
         pub count_inside : count ≤ length report
         count_inside = omega (arith, x.counted, watches_limited, f)
 
-        pub watch_reported : (left : List ℤ) → left ≡ sets report 0 (report_of x.program.watches (traced_states (names + timers) cells)) → (after_watch (W.Count count) left ≡ watch_of text cells report) × WatchedWithin (W.Count count)
+        pub watch_reported : (left : List ℤ) → left ≡ sets report 0 (report_of x.program.watches (traced_states (names + timers) cells)) → (after_watch (Ok count) left ≡ watch_of text cells report) × WatchedWithin (Ok count)
         watch_reported left w = (sym (watch_tested ∙ rw (e, eq-eqb (length report) 16 f, x.counted, w ∙ front)), omega (arith, x.counted, watches_limited))
           where
             l : length (report_of x.program.watches (traced_states (names + timers) cells)) ≡ length x.program.watches

@@ -1,20 +1,15 @@
 -- What the answer of watch stands for: how many watches there are, or a refusal's number and place. Assumes nothing.
-use Rattle.std.specs.Prelude.{ℕ, ◌≤◌, List, ℤ}
+use Rattle.std.specs.Prelude.{ℕ, ◌≤◌, List, ℤ, Result, Ok, Err}
 use Rattle.limits.specs.Limits.{text_limit, watch_limit}
-use Rattle.limits.specs.Answer.{Answer, accepted, refused}
-use Rattle.watch.specs.declared.Watched.{Watched}
-use Rattle.watch.specs.declared.Watched.TheVariants.{Count, Refused}
+use Rattle.limits.specs.declared.Refusal.{Refusal}
+use Rattle.limits.specs.Refusals.{place_of, stands_for}
 use Rattle.watch.specs.Services.{AfterWatch}
 
-abbrev pub watched_answer : Watched → Answer ℕ
-watched_answer (Count n) = accepted n
-watched_answer (Refused number place) = refused number place
-
 -- the answer with the report that is left
-abbrev pub after_watch : Watched → List ℤ → AfterWatch
-after_watch r left = record { answer = watched_answer r; report = left }
+abbrev pub after_watch : Result ℕ Refusal → List ℤ → AfterWatch
+after_watch r left = record { answer = stands_for r; report = left }
 
 -- how large these numbers are, which the C functions pack into 64 bits
-abbrev pub WatchedWithin : Watched → Type 0
-WatchedWithin (Count n) = n ≤ watch_limit
-WatchedWithin (Refused number place) = place ≤ text_limit
+abbrev pub WatchedWithin : Result ℕ Refusal → Type 0
+WatchedWithin (Ok n) = n ≤ watch_limit
+WatchedWithin (Err e) = place_of e ≤ text_limit

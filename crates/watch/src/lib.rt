@@ -17,13 +17,7 @@ ghost use Rattle.watch.specs.Results.{after_watch, WatchedWithin};
 ghost use Rattle.watch.specs.Inner.Reports.{FailedWithin, WatchCode, CountedWatches};
 
 use evaluation::Failed;
-
-// How many watches there are, each with its report; or a refusal's number and place.
-#[derive(Clone, Copy)]
-pub enum Watched {
-    Count(usize),
-    Refused(u8, usize),
-}
+use limits::Refusal;
 
 fn number(place: usize) -> i64
     requires { place < 2 ^ 63 }
@@ -120,44 +114,41 @@ fn watch_in(
     ends: &mut [usize],
     code: &mut [u8],
     vals: &mut [i32],
-) -> Watched
+) -> Result<usize, Refusal>
     requires table_room { TableRoom starts.old ends.old 0 }
     requires image_room_in_bounds { (image_room ≤ length code.old) × (stack_limit ≤ length vals.old) }
     ensures report_after { after_watch result report.new ≡ watch_of text.now trace.now report.old }
     ensures watched_within { WatchedWithin result }
 {
-    match translate::analyse(text, starts, ends) {
-        Ok(analysis) => {
-            let names = analysis.names;
-            let count = analysis.watches;
-            // a state: the value of each name, then the elapsed time of each timer
-            let size = names + analysis.timers;
-            if !lent::is_trace(trace, size) {
-                return Watched::Refused(limits::WRONG_LENGTH, 0);
-            }
-            if report.len() != limits::REPORT_LENGTH {
-                return Watched::Refused(limits::WRONG_LENGTH, 0);
-            }
-            reports(
-                text,
-                starts,
-                ends,
-                names,
-                analysis.rules_end,
-                count,
-                trace,
-                size,
-                report,
-                code,
-                vals,
-            );
-            Watched::Count(count)
-        }
-        Err(refusal) => Watched::Refused(refusal.number(), refusal.place()),
+    let analysis = translate::analyse(text, starts, ends)?;
+    let names = analysis.names;
+    let count = analysis.watches;
+    // a state: the value of each name, then the elapsed time of each timer
+    let size = names + analysis.timers;
+    if !lent::is_trace(trace, size) {
+        return Err(Refusal::WrongLength);
     }
+    if report.len() != limits::REPORT_LENGTH {
+        return Err(Refusal::WrongLength);
+    }
+    reports(
+        text,
+        starts,
+        ends,
+        names,
+        analysis.rules_end,
+        count,
+        trace,
+        size,
+        report,
+        code,
+        vals,
+    );
+    Ok(count)
 }
 
-pub fn watch(text: &[u8], trace: &[i32], report: &mut [i64]) -> Watched
+// How many watches there are, each with its report.
+pub fn watch(text: &[u8], trace: &[i32], report: &mut [i64]) -> Result<usize, Refusal>
     ensures report_after { after_watch result report.new ≡ watch_of text.now trace.now report.old }
     ensures watched_within { WatchedWithin result }
 {
