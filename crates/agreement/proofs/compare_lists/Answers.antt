@@ -1,10 +1,7 @@
 use Rattle.std.proofs.Common.{◌+◌, ap}
 use Rattle.agreement.specs.Inner.Comparison.{compared_of}
-use Rattle.agreement.proofs.Parts.{comparing, compared, part_differs, separator_known, sign_differs, next_part}
+use Rattle.agreement.proofs.Parts.{compared, part_differs, separator_known, sign_differs, next_part}
 use Rattle.agreement.proofs.compare_lists.Goals as goal
-
-pub loop-i-init : goal.loop-i-init
-loop-i-init c = comparing _ _ _ _ c.requires.spans _
 
 pub returns-in_default : goal.returns-in_default
 returns-in_default c =

@@ -23,7 +23,7 @@ begin-trace-requires c κs =
     (accepts_part a (state_part a c.args.state.now c.requires.1.1), (c.requires.1.0, c.requires.1.2))
 
 returns : tie.Need-returns-in-Refused
-returns c = opens_refused _ _ _ (text_refused _ (analysed_refused c.analyse-analysis.ensures c.in-Refused.is)) c.requires.1.2 c.put_refused-put.ensures.0 c.put_refused-put.ensures.1
+returns c = opens_refused _ _ _ (text_refused _ (analysed_refused c.analyse-analysis.ensures c.in-Refused.is)) c.requires.1.2 (rw c.from.ensures at c.put_refused-put.ensures.0) (rw c.from.ensures at c.put_refused-put.ensures.1)
 
 returns-2 : tie.Need-returns-in-Accepted
 returns-2 c =
