@@ -1,4 +1,4 @@
-use Rattle.std.proofs.Common.{refl, sym, ap, ◌∙◌}
+use Rattle.std.proofs.Common.{sym, ap, ◌∙◌}
 use Rattle.st_program.specs.Written.{is_st_word}
 use Rattle.structured_text.proofs.Walk.{none_here, none_next, none_left_lem, timed_lacks, untimed_has}
 use Rattle.structured_text.proofs.reserved.has_st.Goals as goal
