@@ -5,7 +5,7 @@ use native.Mathlib.Omega.{arith}
 use native.Mathlib.Numerals.{add-one}
 use mathlib.Core.Path.{◌≡◌, refl, sym, ap, ◌∙◌}
 use mathlib.Core.List.{List, [], ◌∷◌, ◌++◌, map}
-use mathlib.Core.Option.{none, some}
+use mathlib.Core.Option.{some}
 use lib.IntN.{ℤ, pos, neg_ℤ}
 use lib.ListN.{length, get_elem?, take, drop, take-append-drop, length-append}
 use Rattle.limits.specs.Limits.{buffer_too_short, not_in_st}

@@ -30,7 +30,7 @@ use Rattle.bytecode.specs.Parts.{header_of, code_of}
 use Rattle.bytecode.specs.Results.{HeaderStands}
 use Rattle.bytecode.proofs.Soundness.{program_header, check_header_lem, header_of_lem, code_of_lem}
 use Rattle.bytecode.proofs.SoundHeader.{header_counts, header_place, starts_stored}
-use Rattle.grammar.specs.Parsed.{accepted, refused}
+use Rattle.grammar.specs.Parsed.{refused}
 use Rattle.grammar.specs.Parse.{program, parse, program_of}
 use Rattle.grammar.specs.Spelled.{names_of}
 use Rattle.grammar.proofs.Image.{image_emitted}

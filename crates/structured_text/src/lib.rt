@@ -3,7 +3,7 @@
 #![tactic(auto)]
 
 ghost use Rattle.std.specs.Prelude.{◌≡◌, [], ◌+◌, ◌*◌, ◌≤◌, length};
-ghost use Rattle.limits.specs.Limits.{text_limit, name_limit};
+ghost use Rattle.limits.specs.Limits.{text_limit, name_limit, image_room};
 ghost use Rattle.lexer.specs.Names.{table_names, Table};
 ghost use Rattle.semantics.specs.Program.{Program};
 ghost use Rattle.bytecode.specs.Instructions.{encode_all};
@@ -179,51 +179,31 @@ fn write_in(text: &[u8], out: &mut [u8], scratch: &mut [u8], mirror: &mut [u8]) 
     }
 }
 
-// A text of at most 1,024 bytes, whose image has at most 1,538 (as translate: clearing the memory would else take longer than the work).
-fn write_short(text: &[u8], out: &mut [u8]) -> Written
-    requires { length text.now ≤ 1024 }
+// With room for an image of ROOM bytes (as translate: clearing the memory would else take longer than the work).
+fn write_with_room<const ROOM: usize>(text: &[u8], out: &mut [u8]) -> Written
+    requires text_in_room { (length text.now ≤ text_limit) × (3 * length text.now + 4 ≤ 2 * ROOM) }
+    requires room_within { ROOM ≤ image_room }
     ensures out_after { after_writing result out.new ≡ structured_text_of text.now out.old }
     ensures written_within { WrittenWithin result }
 {
-    let mut scratch = [0u8; 1538];
-    let mut mirror = [0u8; 1538];
+    let mut scratch = [0u8; ROOM];
+    let mut mirror = [0u8; ROOM];
     write_in(text, out, &mut scratch, &mut mirror)
 }
 
-// A text of at most 8,192 bytes, whose image has at most 12,290.
-fn write_middle(text: &[u8], out: &mut [u8]) -> Written
-    requires { length text.now ≤ 8192 }
-    ensures out_after { after_writing result out.new ≡ structured_text_of text.now out.old }
-    ensures written_within { WrittenWithin result }
-{
-    let mut scratch = [0u8; 12290];
-    let mut mirror = [0u8; 12290];
-    write_in(text, out, &mut scratch, &mut mirror)
-}
-
-// No image of a text has over 49,154 bytes.
-fn write_any(text: &[u8], out: &mut [u8]) -> Written
-    requires { length text.now ≤ text_limit }
-    ensures out_after { after_writing result out.new ≡ structured_text_of text.now out.old }
-    ensures written_within { WrittenWithin result }
-{
-    let mut scratch = [0u8; limits::IMAGE_ROOM];
-    let mut mirror = [0u8; limits::IMAGE_ROOM];
-    write_in(text, out, &mut scratch, &mut mirror)
-}
-
+// No image of a text has over 49,154 bytes, of one of at most 1,024 bytes over 1,538, of one of at most 8,192 bytes over 12,290.
 pub fn structured_text(text: &[u8], out: &mut [u8]) -> Written
     ensures out_after { after_writing result out.new ≡ structured_text_of text.now out.old }
     ensures written_within { WrittenWithin result }
 {
     if text.len() <= 1024 {
-        return write_short(text, out);
+        return write_with_room::<1538>(text, out);
     }
     if text.len() <= 8192 {
-        return write_middle(text, out);
+        return write_with_room::<12290>(text, out);
     }
     if text.len() <= limits::TEXT_LIMIT {
-        return write_any(text, out);
+        return write_with_room::<{ limits::IMAGE_ROOM }>(text, out);
     }
     Written::Refused(limits::TOO_LONG, 0)
 }

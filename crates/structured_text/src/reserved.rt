@@ -10,29 +10,13 @@ ghost use Rattle.structured_text.specs.Services.{declares_name, is_outside, rese
 
 use lexer::Step;
 
+const ST_WORDS: [&[u8]; 7] = [b"IF", b"THEN", b"ELSIF", b"DINT", b"AND", b"OR", b"NOT"];
+
 // In any letter case.
 fn is_st_word(w: &[u8]) -> bool
     ensures { result ≡ is_st_word w.now }
 {
-    if lexer::same_name(w, b"IF") {
-        return true;
-    }
-    if lexer::same_name(w, b"THEN") {
-        return true;
-    }
-    if lexer::same_name(w, b"ELSIF") {
-        return true;
-    }
-    if lexer::same_name(w, b"DINT") {
-        return true;
-    }
-    if lexer::same_name(w, b"AND") {
-        return true;
-    }
-    if lexer::same_name(w, b"OR") {
-        return true;
-    }
-    lexer::same_name(w, b"NOT")
+    ST_WORDS.iter().any(|word| lexer::same_name(w, word))
 }
 
 // Whether there is no timer and none of the names that the table holds is such a word.
@@ -44,14 +28,10 @@ pub fn has_st(text: &[u8], starts: &[usize], ends: &[usize], count: usize, timer
     if timers != 0 {
         return false;
     }
-    let mut i = 0;
-    while i < count {
-        let s = starts[i];
-        let e = ends[i];
-        if is_st_word(lexer::name(text, s, e)) {
+    for i in 0..count {
+        if is_st_word(lexer::name(text, starts[i], ends[i])) {
             return false;
         }
-        i += 1;
     }
     true
 }

@@ -69,6 +69,7 @@ fn trace_part<W: Write>(
 {
     let mut s = first;
     let mut at = 0;
+    // a `while`: the place moves on by as many bytes as a call took
     while at < part.len() {
         let fed = tracer::feed(text, image, state, cells, s, &part[at..], out);
         s = fed.tracer;

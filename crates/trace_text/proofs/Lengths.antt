@@ -51,9 +51,6 @@ values_more zs i h f =
     let l = decimal_length (get_or zs i (pos 0)) f in
     rw (add-one, drop-cons zs i (pos 0) h, length-append (decimal_of (get_or zs i (pos 0))) (spaced (map decimal_of (drop (suc i) zs)))) (omega arith)
 
-pub turn_less : (n i : ℕ) → i < n → n - (i + 1) < n - i
-turn_less n i h = omega arith
-
 -- ---- lines, with numbers of 64 bits and names of 16 bytes
 
 pub row_length_lem : (number : ℕ) (zs : List ℤ) (refusal : ℕ) → number < 2 ^ 64 → refusal < 2 ^ 64 → length (spaced (map decimal_of zs)) ≤ 12 * length zs

@@ -84,7 +84,7 @@ fn open_in(
             let put = trace_text::print::put_refused(
                 out,
                 0,
-                refusal.number() as u64,
+                u64::from(refusal.number()),
                 refusal.place() as u64,
             );
             Opened {
@@ -184,12 +184,12 @@ fn feed_in(
                     put: 0,
                 };
             }
-            let n = trace_text::print::clip(text.len(), stored);
+            let n = stored.min(text.len());
             feed_text(text, image, state, stage, n, part, out)
         }
         Tracer::Rows(size, names, width, line, number) => {
-            let end = trace_text::print::clip(image.len(), size);
-            let n = trace_text::print::clip(state.len(), width);
+            let end = size.min(image.len());
+            let n = width.min(state.len());
             let fed = rows::feed_rows(
                 &image[..end],
                 &mut state[..n],
@@ -227,7 +227,7 @@ fn finish_in(
             if trace_text::is_rows(stage) {
                 return 0;
             }
-            let n = trace_text::print::clip(text.len(), stored);
+            let n = stored.min(text.len());
             let opened = open_trace(&text[..n], image, state, out);
             opened.put
         }
@@ -235,8 +235,8 @@ fn finish_in(
             if !trace_text::is_begun(line) {
                 return 0;
             }
-            let end = trace_text::print::clip(image.len(), size);
-            let n = trace_text::print::clip(state.len(), width);
+            let end = size.min(image.len());
+            let n = width.min(state.len());
             let next = rows::next_number(number);
             rows::trace_row(
                 &image[..end],

@@ -37,7 +37,7 @@ fn scan_number(r: Scanned) -> u64
 {
     match r {
         Scanned::Done(_) => 0,
-        Scanned::Refused(number, _, _) => number as u64,
+        Scanned::Refused(number, _, _) => u64::from(number),
     }
 }
 
@@ -45,10 +45,7 @@ fn scan_number(r: Scanned) -> u64
 pub fn next_number(number: u64) -> u64
     ensures { result ≡ next_number number }
 {
-    if number < u64::MAX {
-        return number + 1;
-    }
-    number
+    number.saturating_add(1)
 }
 
 // A line that has ended: its row is scanned, and the values of the names in the state it leaves printed, not the elapsed times.
@@ -69,7 +66,7 @@ pub fn trace_row(
 {
     let count = trace_text::line_end(cells, line);
     let scanned = scan::scan(image, state, &cells[..count]);
-    let shown = trace_text::print::clip(state.len(), names);
+    let shown = names.min(state.len());
     trace_text::print::put_row(out, at, number, &state[..shown], scan_number(scanned))
 }
 
@@ -125,9 +122,8 @@ pub fn feed_rows(
 {
     let mut line = begun;
     let mut number = last;
-    let mut taken = 0;
     let mut put = 0;
-    while taken < part.len() {
+    for (taken, b) in part.iter().enumerate() {
         if out.len() - put < LINE_ROOM {
             return FedRows {
                 line,
@@ -136,26 +132,15 @@ pub fn feed_rows(
                 put,
             };
         }
-        let traced = trace_byte(
-            image,
-            state,
-            names,
-            cells,
-            line,
-            number,
-            part[taken],
-            out,
-            put,
-        );
+        let traced = trace_byte(image, state, names, cells, line, number, *b, out, put);
         line = traced.line;
         number = traced.number;
         put = traced.put;
-        taken += 1;
     }
     FedRows {
         line,
         number,
-        taken,
+        taken: part.len(),
         put,
     }
 }

@@ -62,22 +62,6 @@ pub record Reports (text starts ends : List ℕ) (names at count : ℕ) (trace :
   pub room : Room text a 0
   pub wrote : report ≡ sets report₀ 0 (report_of done trace)
 
-pub reports_first : {text starts ends : List ℕ} {names at count : ℕ} (trace : Trace) (report : List ℤ) → CountedWatches text starts ends names at count → Reports text starts ends names at count trace report report at 0
-reports_first trace report x = record {
-  few_names = x.stand.few;
-  table = x.stand.table;
-  watches = x.watches;
-  end = x.stand.end;
-  read = x.stand.read;
-  total = x.counted;
-  done = [];
-  counted = refl;
-  few = omega arith;
-  same = x.stand.read;
-  room = record { short = x.stand.short; within = x.stand.within; room = omega arith };
-  wrote = refl;
-}
-
 module _ {text starts ends : List ℕ} {names at count : ℕ} {trace : Trace} {report₀ report : List ℤ} {a i : ℕ} (x : Reports text starts ends names at count trace report₀ report a i) where
   -- all are reported
   pub reports_end : count ≤ i → (ws : List Watch) (m : ℕ) → watches_from watch_limit (free_scope text starts ends names) [] at ≡ accepted ws m → report ≡ sets report₀ 0 (report_of ws trace)

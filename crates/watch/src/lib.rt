@@ -19,20 +19,13 @@ ghost use Rattle.watch.specs.Inner.Reports.{FailedWithin, WatchCode, CountedWatc
 use evaluation::Failed;
 use limits::Refusal;
 
-fn number(place: usize) -> i64
-    requires { place < 2 ^ 63 }
-    ensures { result ≡ pos place }
-{
-    place as i64
-}
-
 // What is reported: the place, or -1 where the watch has not failed.
 fn reported(failed: Failed) -> i64
     requires { FailedWithin failed }
     ensures { result ≡ reportedOf (failed_at failed) }
 {
     match failed {
-        Failed::At(place) => number(place),
+        Failed::At(place) => place as i64,
         Failed::Never => -1,
     }
 }
@@ -88,8 +81,7 @@ fn reports(
     let places = lent::places(trace, size);
     let free = expressions::scope::first_names(names, names);
     let mut a = at;
-    let mut i = 0;
-    while i < count {
+    for i in 0..count {
         let word = lexer::token_at(text, a);
         let Ok(token) = word else {
             return;
@@ -101,7 +93,6 @@ fn reports(
         let failed = walk(code, b.number, b.to, trace, size, places, vals);
         report[i] = reported(failed);
         a = b.at;
-        i += 1;
     }
 }
 
