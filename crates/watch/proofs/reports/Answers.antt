@@ -14,17 +14,17 @@ use Rattle.watch.proofs.Reporting.{free_writes, reports_end, reports_token, repo
 use Rattle.watch.proofs.reports.Goals as goal
 
 pub returns-in_default : goal.returns-in_default
-returns-in_default c = λ ws m e. reports_token c.loop-i.invariant c.loop-i-test.true (is_fault _ _ _ (c.token_at-word.ensures.value, c.token_at-word.ensures.placed_in) _ _ c.in_default.is).0
+returns-in_default c = λ ws m e. reports_token c.loop-i.invariant c.loop-i-test.true (is_fault _ _ _ (c.token_at-word.ensures.value, c.token_at-word.ensures.placed_in) _ c.in_default.is).0
 
 pub returns-in_default-read : goal.returns-in_default-read
 returns-in_default-read c =
-    let f = found_token _ _ (c.token_at-word.ensures.value, c.token_at-word.ensures.placed_in) c.in-Done.is in
+    let f = found_token _ _ (c.token_at-word.ensures.value, c.token_at-word.ensures.placed_in) c.in-Ok.is in
     λ ws m e. reports_read c.loop-i.invariant c.loop-i-test.true f (refused_part (free_writes _ _ _ _ _ _ c.first_names-free.ensures c.watch-read.ensures) c.in_default-read.is)
 
 pub walk-failed-requires : goal.walk-failed-requires
 walk-failed-requires c =
-    let f = found_token _ _ (c.token_at-word.ensures.value, c.token_at-word.ensures.placed_in) c.in-Done.is in
-    let g = got (free_writes _ _ _ _ _ _ c.first_names-free.ensures c.watch-read.ensures) c.in-Done-read.is in
+    let f = found_token _ _ (c.token_at-word.ensures.value, c.token_at-word.ensures.placed_in) c.in-Ok.is in
+    let g = got (free_writes _ _ _ _ _ _ c.first_names-free.ensures c.watch-read.ensures) c.in-Ok-read.is in
     let large : image_room ≤ length c.loop-i.code = omega (arith, c.loop-i.auto.code, c.requires.count_in_bounds.1) in
     let x = c.loop-i.invariant in
     let h = c.loop-i-test.true in
@@ -36,8 +36,8 @@ walk-failed-requires c =
 
 pub reported-requires : goal.reported-requires
 reported-requires c =
-    let f = found_token _ _ (c.token_at-word.ensures.value, c.token_at-word.ensures.placed_in) c.in-Done.is in
-    let g = got (free_writes _ _ _ _ _ _ c.first_names-free.ensures c.watch-read.ensures) c.in-Done-read.is in
+    let f = found_token _ _ (c.token_at-word.ensures.value, c.token_at-word.ensures.placed_in) c.in-Ok.is in
+    let g = got (free_writes _ _ _ _ _ _ c.first_names-free.ensures c.watch-read.ensures) c.in-Ok-read.is in
     let large : image_room ≤ length c.loop-i.code = omega (arith, c.loop-i.auto.code, c.requires.count_in_bounds.1) in
     let s = c.requires.names_le_size in
     let small : c.places-places.result < 2 ^ 63 = omega (arith, c.places-places.ensures, places_small _ _ s.2, c.well_formed) in
@@ -45,8 +45,8 @@ reported-requires c =
 
 pub loop-i-preserved : goal.loop-i-preserved
 loop-i-preserved c =
-    let f = found_token _ _ (c.token_at-word.ensures.value, c.token_at-word.ensures.placed_in) c.in-Done.is in
-    let g = got (free_writes _ _ _ _ _ _ c.first_names-free.ensures c.watch-read.ensures) c.in-Done-read.is in
+    let f = found_token _ _ (c.token_at-word.ensures.value, c.token_at-word.ensures.placed_in) c.in-Ok.is in
+    let g = got (free_writes _ _ _ _ _ _ c.first_names-free.ensures c.watch-read.ensures) c.in-Ok-read.is in
     let large : image_room ≤ length c.loop-i.code = omega (arith, c.loop-i.auto.code, c.requires.count_in_bounds.1) in
     let s = c.requires.names_le_size in
     let told = c.walk-failed.ensures g.tree (reports_code c.loop-i.invariant c.loop-i-test.true f s.0 s.1 g large) in
