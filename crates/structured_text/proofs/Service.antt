@@ -47,8 +47,8 @@ use Rattle.st_writer.specs.Inner.Fronts.{Fronts}
 use Rattle.st_writer.specs.Inner.Mirrored.{mirrored}
 use Rattle.st_writer.proofs.Listed.{statements_joined}
 use Rattle.st_sections.proofs.Lines.{sections_program}
-use Rattle.structured_text.specs.declared.Written.{Written}
-use Rattle.structured_text.specs.declared.Written.TheVariants as W
+use Rattle.limits.specs.declared.Refusal.TheVariants.{TooLong, NotInSt, BufferTooShort}
+use Rattle.std.specs.Prelude.{Result}
 use Rattle.structured_text.specs.Services.{declares_name, is_outside, reserved_from, reserved_place, structured_text_of}
 use Rattle.structured_text.specs.Room.{st_room}
 use Rattle.structured_text.specs.Results.{after_writing, WrittenWithin}
@@ -78,15 +78,15 @@ module _ (text : List ℕ) where
 
 module _ (text buffer : List ℕ) where
   -- what is answered and left is the definition's, and small
-  abbrev pub Served : Written → List ℕ → Type 0
+  abbrev pub Served : Result ℕ Refusal → List ℕ → Type 0
   Served r left = (after_writing r left ≡ structured_text_of text buffer) × WrittenWithin r
 
-  pub text_refused : (k x : ℕ) → parse text ≡ refused k x → Served (W.Refused k x) buffer
+  pub text_refused : (x : Refusal) → parse text ≡ refused (number_of x) (place_of x) → Served (Err x) buffer
   unfolding structured_text_of program_of
-  text_refused k x e = (rw e, (subst (Placed text_limit) e (parse_limited text)).1)
+  text_refused x e = (rw e, (subst (Placed text_limit) e (parse_limited text)).1)
 
-  pub long_refused : text_limit < length text → Served (W.Refused 9 0) buffer
-  long_refused h = text_refused 9 0 (parse_long text h)
+  pub long_refused : text_limit < length text → Served (Err TooLong) buffer
+  long_refused h = text_refused TooLong (parse_long text h)
 
   module _ (p : Program) (e : program_of text ≡ A.accepted p) where
     short : length text ≤ text_limit
@@ -95,16 +95,16 @@ module _ (text buffer : List ℕ) where
     pub st_few : length (st_bytes p) ≤ st_room
     st_few = let g = st_growth text p e in let s = short in omega arith
 
-    pub name-refused : has_st p ≡ false → Served (W.Refused 21 (reserved_place text)) buffer
+    pub name-refused : has_st p ≡ false → Served (Err (NotInSt (reserved_place text))) buffer
     unfolding structured_text_of
     name-refused h = (rw (e, h), omega (arith, reserved_within text, short))
 
     module _ (h : has_st p ≡ true) (size : ℕ) (s : size ≡ length (st_bytes p)) where
-      pub room_refused : length buffer < size → Served (W.Refused 10 (length text)) buffer
+      pub room_refused : length buffer < size → Served (Err (BufferTooShort (length text))) buffer
       unfolding structured_text_of
       room_refused l = (rw (e, h, lt-leb (length (st_bytes p)) (length buffer) (omega (arith, s))), short)
 
-      pub st_written : (left : List ℕ) → size ≤ length buffer → left ≡ sets buffer 0 (st_bytes p) → Served (W.Text size) left
+      pub st_written : (left : List ℕ) → size ≤ length buffer → left ≡ sets buffer 0 (st_bytes p) → Served (Ok size) left
       unfolding structured_text_of
       st_written left l w =
           let fits : length (st_bytes p) ≤ length buffer = omega (arith, s) in
@@ -113,8 +113,8 @@ module _ (text buffer : List ℕ) where
 -- ---- an accepted text
 
 module _ (text before after starts ends : List ℕ) {r : Step} (short : length text ≤ text_limit) (d : Descends text (program text) before after starts ends r) where
-  pub fault_passed : (e : Refusal) (buffer : List ℕ) → r ≡ Err e → Served text buffer (W.Refused (number_of e) (place_of e)) buffer
-  fault_passed e buffer h = text_refused text buffer (number_of e) (place_of e) (short_parse text short ∙ refused_part d.writes h)
+  pub fault_passed : (e : Refusal) (buffer : List ℕ) → r ≡ Err e → Served text buffer (Err e) buffer
+  fault_passed e buffer h = text_refused text buffer e (short_parse text short ∙ refused_part d.writes h)
 
   pub compiled : (x : Place) → 3 * length text + 4 ≤ 2 * length before → r ≡ Ok x → name_limit ≤ length starts → name_limit ≤ length ends → Compiled text starts ends x.end (take x.to after)
   unfolding program_of

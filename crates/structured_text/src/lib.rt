@@ -15,18 +15,12 @@ ghost use Rattle.structured_text.specs.Results.{after_writing, WrittenWithin};
 ghost use Rattle.structured_text.specs.Inner.Prepared.{whole_printed, Compiled, ReadyToPrint};
 
 use bytecode::Headed;
+use limits::Refusal;
 
 pub mod reserved;
 
 // The Structured Text of any text fits in as many bytes.
 const ST_ROOM: usize = 115998;
-
-// The length of the Structured Text, or a refusal's number and place.
-#[derive(Clone, Copy)]
-pub enum Written {
-    Text(usize),
-    Refused(u8, usize),
-}
 
 // The whole, from the mirrored code, before `to`: the last part first.
 fn print_before(
@@ -61,7 +55,7 @@ fn write_mirrored(
     inputs: usize,
     count: usize,
     code: &[u8],
-) -> Written
+) -> Result<usize, Refusal>
     requires { ReadyToPrint (λ is. mirrored is []) text.now starts.now ends.now values.now inputs count code.now }
     ensures out_after { after_writing result out.new ≡ structured_text_of text.now out.old }
     ensures written_within { WrittenWithin result }
@@ -72,10 +66,10 @@ fn write_mirrored(
     );
     let size = ST_ROOM - first;
     if out.len() < size {
-        return Written::Refused(limits::BUFFER_TOO_SHORT, text.len());
+        return Err(Refusal::BufferTooShort(text.len()));
     }
     print_before(text, starts, ends, values, inputs, count, code, out, size);
-    Written::Text(size)
+    Ok(size)
 }
 
 // The code mirrored into lent memory.
@@ -89,7 +83,7 @@ fn write_code(
     count: usize,
     code: &[u8],
     mirror: &mut [u8],
-) -> Written
+) -> Result<usize, Refusal>
     requires ready_to_print { ReadyToPrint encode_all text.now starts.now ends.now values.now inputs count code.now }
     requires code_in_bounds { length code.now ≤ length mirror.old }
     ensures out_after { after_writing result out.new ≡ structured_text_of text.now out.old }
@@ -121,7 +115,7 @@ fn write_image(
     timers: usize,
     image: &[u8],
     mirror: &mut [u8],
-) -> Written
+) -> Result<usize, Refusal>
     requires compiled { Compiled text.now starts.now ends.now timers image.now }
     requires name_limit_in_bounds { (name_limit ≤ length values.old) × (length image.now ≤ length mirror.old) }
     ensures out_after { after_writing result out.new ≡ structured_text_of text.now out.old }
@@ -129,10 +123,10 @@ fn write_image(
 {
     let headed = bytecode::header(image, low, high, values);
     let Headed::Header(inputs, count, place) = headed else {
-        return Written::Refused(limits::BROKEN_IMAGE, 0);
+        return Err(Refusal::BrokenImage(0));
     };
     if !reserved::has_st(text, starts, ends, count, timers) {
-        return Written::Refused(limits::NOT_IN_ST, reserved::reserved_place(text));
+        return Err(Refusal::NotInSt(reserved::reserved_place(text)));
     }
     write_code(
         text,
@@ -148,7 +142,12 @@ fn write_image(
 }
 
 // Over lent memory with room for the image, once as it is and once mirrored.
-fn write_in(text: &[u8], out: &mut [u8], scratch: &mut [u8], mirror: &mut [u8]) -> Written
+fn write_in(
+    text: &[u8],
+    out: &mut [u8],
+    scratch: &mut [u8],
+    mirror: &mut [u8],
+) -> Result<usize, Refusal>
     requires text_len_bound { (length text.now ≤ text_limit) × (3 * length text.now + 4 ≤ 2 * length scratch.old) }
     requires scratch_in_bounds { length scratch.old ≤ length mirror.old }
     ensures out_after { after_writing result out.new ≡ structured_text_of text.now out.old }
@@ -159,28 +158,24 @@ fn write_in(text: &[u8], out: &mut [u8], scratch: &mut [u8], mirror: &mut [u8]) 
     let mut low = [0i32; 1];
     let mut high = [0i32; 1];
     let mut values = [0i32; limits::NAME_LIMIT];
-    match translate::descend(text, &mut starts, &mut ends, scratch) {
-        Ok(end) => {
-            let size = end.to;
-            write_image(
-                text,
-                out,
-                &starts,
-                &ends,
-                &mut low,
-                &mut high,
-                &mut values,
-                end.end,
-                &scratch[..size],
-                mirror,
-            )
-        }
-        Err(refusal) => Written::Refused(refusal.number(), refusal.place()),
-    }
+    let end = translate::descend(text, &mut starts, &mut ends, scratch)?;
+    let size = end.to;
+    write_image(
+        text,
+        out,
+        &starts,
+        &ends,
+        &mut low,
+        &mut high,
+        &mut values,
+        end.end,
+        &scratch[..size],
+        mirror,
+    )
 }
 
 // With room for an image of ROOM bytes (as translate: clearing the memory would else take longer than the work).
-fn write_with_room<const ROOM: usize>(text: &[u8], out: &mut [u8]) -> Written
+fn write_with_room<const ROOM: usize>(text: &[u8], out: &mut [u8]) -> Result<usize, Refusal>
     requires text_in_room { (length text.now ≤ text_limit) × (3 * length text.now + 4 ≤ 2 * ROOM) }
     requires room_within { ROOM ≤ image_room }
     ensures out_after { after_writing result out.new ≡ structured_text_of text.now out.old }
@@ -191,8 +186,8 @@ fn write_with_room<const ROOM: usize>(text: &[u8], out: &mut [u8]) -> Written
     write_in(text, out, &mut scratch, &mut mirror)
 }
 
-// No image of a text has over 49,154 bytes, of one of at most 1,024 bytes over 1,538, of one of at most 8,192 bytes over 12,290.
-pub fn structured_text(text: &[u8], out: &mut [u8]) -> Written
+// The length of the Structured Text. No image of a text has over 49,154 bytes, of one of at most 1,024 bytes over 1,538, of one of at most 8,192 bytes over 12,290.
+pub fn structured_text(text: &[u8], out: &mut [u8]) -> Result<usize, Refusal>
     ensures out_after { after_writing result out.new ≡ structured_text_of text.now out.old }
     ensures written_within { WrittenWithin result }
 {
@@ -205,5 +200,5 @@ pub fn structured_text(text: &[u8], out: &mut [u8]) -> Written
     if text.len() <= limits::TEXT_LIMIT {
         return write_with_room::<{ limits::IMAGE_ROOM }>(text, out);
     }
-    Written::Refused(limits::TOO_LONG, 0)
+    Err(Refusal::TooLong)
 }

@@ -18,27 +18,27 @@ abbrev decreases_loop : tie.decreases-loop-token
 decreases_loop text at₀ named₀ at named = length text - at
 
 returns : tie.Need-returns-in_default invariant_loop decreases_loop
-returns c = walk_fault c.loop-token.invariant _ (is_fault _ _ _ c.token_at-read.ensures _ _ c.in_default.is).0
+returns c = walk_fault c.loop-token.invariant _ (is_fault _ _ _ c.token_at-read.ensures _ c.in_default.is).0
 
 returns-2 : tie.Need-returns-then-token-eq-END invariant_loop decreases_loop
 unfolding kind_number
-returns-2 c = walk_end c.loop-token.invariant _ _ _ (is_token _ _ _ c.token_at-read.ensures _ c.in-Done.is).0 (kind_is _ ending c.if-token-eq-END.true)
+returns-2 c = walk_end c.loop-token.invariant _ _ _ (is_token _ _ _ c.token_at-read.ensures _ c.in-Ok.is).0 (kind_is _ ending c.if-token-eq-END.true)
 
 is-outside-requires : tie.Need-is_outside-requires invariant_loop decreases_loop
-is-outside-requires c κs = (is_token _ _ _ c.token_at-read.ensures _ c.in-Done.is).1.known_kind
+is-outside-requires c κs = (is_token _ _ _ c.token_at-read.ensures _ c.in-Ok.is).1.known_kind
 
 returns-3 : tie.Need-returns-then-is_outside invariant_loop decreases_loop
 unfolding kind_number
 returns-3 c =
-    let t = is_token _ _ _ c.token_at-read.ensures _ c.in-Done.is in
+    let t = is_token _ _ _ c.token_at-read.ensures _ c.in-Ok.is in
     walk_here c.loop-token.invariant _ _ _ t.0 (kind_is_not _ ending t.1.known_kind c.if-token-eq-END.false) (sym c.is_outside.ensures ∙ c.if-is_outside.true)
 
 declares-name-requires : tie.Need-declares_name-named-requires invariant_loop decreases_loop
-declares-name-requires c κs = (is_token _ _ _ c.token_at-read.ensures _ c.in-Done.is).1.known_kind
+declares-name-requires c κs = (is_token _ _ _ c.token_at-read.ensures _ c.in-Ok.is).1.known_kind
 
 loop-less : tie.Need-loop-token-smaller invariant_loop decreases_loop
 loop-less c =
-    let t = is_token _ _ _ c.token_at-read.ensures _ c.in-Done.is in
+    let t = is_token _ _ _ c.token_at-read.ensures _ c.in-Ok.is in
     let m = t.1.moved c.if-token-eq-END.false in
     let l = t.1.within c.loop-token.invariant.inside in
     omega (arith, m, l, t.1.after)
@@ -46,7 +46,7 @@ loop-less c =
 loop-again : tie.Need-loop-token-preserved invariant_loop decreases_loop
 unfolding kind_number
 loop-again c =
-    let t = is_token _ _ _ c.token_at-read.ensures _ c.in-Done.is in
+    let t = is_token _ _ _ c.token_at-read.ensures _ c.in-Ok.is in
     let m = t.1.moved c.if-token-eq-END.false in
     let n = walk_next c.loop-token.invariant _ _ _ t.0 (kind_is_not _ ending t.1.known_kind c.if-token-eq-END.false) (sym c.is_outside.ensures ∙ c.if-is_outside.false) (omega (arith, m, t.1.after)) (t.1.within c.loop-token.invariant.inside) in
     rw c.declares_name-named.ensures n
