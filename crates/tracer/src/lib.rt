@@ -60,7 +60,7 @@ fn begin_trace(
     ensures begins { (p : Program) → program_of text.now ≡ accepted p → Begins (take size image.new) state.new (take result out.new) p }
     ensures upper_bound { result ≤ length out.new }
 {
-    translate::translate(text, image);
+    let _ = translate::translate(text, image);
     let at = trace_text::print::put_head(out, 0, text, starts, ends, names);
     scan::start(&image[..size], state);
     trace_text::print::put_row(out, at, 0, &state[..names], 0)
