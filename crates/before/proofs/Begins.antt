@@ -8,6 +8,8 @@ use lib.Dec.{eqb}
 use lib.IntN.{ℤ}
 use lib.ListN.{length, take}
 use borrow.Author.Tests.{eq-eqb}
+use Rattle.std.specs.Prelude.{Result, Ok, Err}
+use Rattle.limits.specs.declared.Refusal.{Refusal}
 use Rattle.limits.specs.Answer.{accepted, refused, Answer}
 use Rattle.semantics.specs.Formula.{State}
 use Rattle.semantics.specs.Shape.{state_length, row_length}
@@ -15,8 +17,7 @@ use Rattle.bytecode.specs.Check.{check_of}
 use Rattle.bytecode.specs.Parts.{shape_in}
 use Rattle.bytecode.proofs.Walk.{refused≢accepted}
 use Rattle.shapes.specs.declared.Measured.{Measured}
-use Rattle.before.specs.declared.Before.{Before}
-use Rattle.before.specs.declared.Before.TheVariants as T
+use Rattle.before.specs.declared.Code.{Code}
 use Rattle.before.specs.Before.{tested_before, before_code, may_scan}
 use Rattle.before.specs.Inner.Known.{tested_row, PreparedBy, tested_length, KnownImage, BegunBy}
 
@@ -51,8 +52,8 @@ tests_sound image s row e = go (check_of image) refl (sym e)
 -- what a start keeps, by the answer: the parts of the lent memory that were used, and the rest as it was
 pub begun_by : (image : List ℕ) (s : State) (row low high work part : List ℤ) (m : Measured) → length s ≡ m.size → length s ≤ 127
     → KnownImage image m s (take m.size low) (take m.size high) → m.timers < 2 ^ m.names → take m.size work ≡ part
-    → (r : Before) → PreparedBy (shape_in image) m s row part r → BegunBy image s row low high work r
-begun_by image s row low high work part m l few k t w (T.Code at timing) c =
+    → (r : Result Code Refusal) → PreparedBy (shape_in image) m s row part r → BegunBy image s row low high work r
+begun_by image s row low high work part m l few k t w (Ok r) c =
     let x = k.shape in
     let y = c.1 in
     record {
@@ -68,4 +69,4 @@ begun_by image s row low high work part m l few k t w (T.Code at timing) c =
       low_timers = rw (y.names_are, y.timers_are) t;
       short = y.short;
     }
-begun_by image s row low high work part m l few k t w (T.Refused number at) c = omega (arith, c)
+begun_by image s row low high work part m l few k t w (Err r) c = omega (arith, c)

@@ -9,6 +9,8 @@ use lib.ListN.{length, take, get_or-eq_default}
 use lib.Seq.{take_all, length-take-le}
 use lib.Signed.{non_neg}
 use borrow.Author.Tests.{eq-eqb, ne_eqb}
+use Rattle.std.specs.Prelude.{Result, Ok, Err}
+use Rattle.limits.specs.declared.Refusal.{Refusal}
 use Rattle.limits.specs.Answer.{accepted, refused}
 use Rattle.arith.specs.Values.{count}
 use Rattle.semantics.specs.Formula.{State, at}
@@ -19,8 +21,7 @@ use Rattle.shapes.specs.declared.Measured.{Measured}
 use Rattle.machine.specs.declared.Timing.{Timing}
 use Rattle.machine.proofs.Changes.{names_length}
 use Rattle.machine.proofs.Timers.{millis_count}
-use Rattle.before.specs.declared.Before.{Before}
-use Rattle.before.specs.declared.Before.TheVariants as T
+use Rattle.before.specs.declared.Code.{Code}
 use Rattle.before.specs.Before.{tested_before}
 use Rattle.before.specs.Inner.Known.{in_ranges, CopiedBy, KnownShape, tested_row, PreparedBy}
 use Rattle.before.proofs.Cells.{no_elapsed, some_elapsed, names_within}
@@ -56,9 +57,9 @@ module _ {k : Shape} {m : Measured} {low high : List ℤ} (x : KnownShape k m lo
       pub plain_rest : in_ranges (cells k) s row ≡ tested_row k s row
       plain_rest = rw (untimed, x.inputs_are, eq-eqb (length row) m.inputs n, names_within k row (omega (arith, x.among, x.names_are)))
 
-      pub plain_prepared : (work : List ℤ) (r : Before) → CopiedBy m.place (timing_of 0) s row work r → PreparedBy k m s row work r
-      plain_prepared work (T.Refused number at₁) c = c
-      plain_prepared work (T.Code at₁ timing) c =
+      pub plain_prepared : (work : List ℤ) (r : Result Code Refusal) → CopiedBy m.place (timing_of 0) s row work r → PreparedBy k m s row work r
+      plain_prepared work (Err r) c = c
+      plain_prepared work (Ok r) c =
           let out : at row k.inputs ≡ pos 0 = get_or-eq_default row (pos 0) (omega (arith, x.inputs_are)) in (
             c.0,
             record {
@@ -93,10 +94,10 @@ module _ {k : Shape} {m : Measured} {low high : List ℤ} (x : KnownShape k m lo
           rw (some_timer, x.inputs_are, eq-eqb (length row) (m.inputs + 1) n, ← inputs_within, z)
           (then_tested (all_within (cells k) s) (all_within (cells k) (take m.inputs row)) b e)
 
-      pub timed_prepared : (ms : ℕ) (work : List ℤ) (r : Before) → ms ≡ count (at row m.inputs) → ms < 2 ^ 31 → CopiedBy m.place (timing_of ms) s (take m.inputs row) work r
+      pub timed_prepared : (ms : ℕ) (work : List ℤ) (r : Result Code Refusal) → ms ≡ count (at row m.inputs) → ms < 2 ^ 31 → CopiedBy m.place (timing_of ms) s (take m.inputs row) work r
           → PreparedBy k m s row work r
-      timed_prepared ms work (T.Refused number at₁) e l c = c
-      timed_prepared ms work (T.Code at₁ timing) e l c = (
+      timed_prepared ms work (Err r) e l c = c
+      timed_prepared ms work (Ok r) e l c = (
         c.0,
         record {
           names_are = rw c.1;

@@ -3,21 +3,23 @@
 
 ghost use Rattle.std.specs.Prelude.{◌≡◌, List, ◌+◌, length};
 ghost use Rattle.limits.specs.Limits.{state_limit};
+ghost use Rattle.limits.specs.Refusals.{judged_by};
 ghost use Rattle.semantics.specs.Program.{Range};
 ghost use Rattle.semantics.specs.Shape.{Shape};
 ghost use Rattle.machine.specs.Inner.Memory.{RangesIn};
 ghost use Rattle.before.specs.Before.{before_code};
 ghost use Rattle.before.specs.Inner.Memory.{FittingMemory, Scratch};
-ghost use Rattle.before.specs.Inner.Known.{before_answer, in_ranges, CopiedBy, KnownShape, tested_row, PreparedBy, ShapedFor, BegunBy};
+ghost use Rattle.before.specs.Inner.Known.{in_ranges, CopiedBy, KnownShape, tested_row, PreparedBy, ShapedFor, BegunBy};
 
+use limits::Refusal;
 use machine::{Timing, lists};
-use shapes::{Measured, Shaped};
+use shapes::Measured;
 
-// The place of the code and the timing of the row, or a refusal's number and place.
+// The place of the code, and the timing of the row.
 #[derive(Clone, Copy)]
-pub enum Before {
-    Code(usize, Timing),
-    Refused(u8, usize),
+pub struct Code {
+    pub place: usize,
+    pub timing: Timing,
 }
 
 // The state, then the inputs; then they stand over a copy of the state.
@@ -29,19 +31,19 @@ fn before_ranges(
     state: &[i32],
     inputs: &[i32],
     work: &mut [i32],
-) -> Before
+) -> Result<Code, Refusal>
     requires { FittingMemory (length inputs.now) state.now low.now high.now work.old }
-    ensures result_value { (ns : List Range) → RangesIn ns low.now high.now → before_answer result ≡ in_ranges ns state.now inputs.now }
+    ensures result_value { (ns : List Range) → RangesIn ns low.now high.now → judged_by result ≡ in_ranges ns state.now inputs.now }
     ensures copied_by { CopiedBy place timing state.now inputs.now work.new result }
 {
     if !lists::all_in_range(low, high, state) {
-        return Before::Refused(limits::STATE_OUT_OF_RANGE, 0);
+        return Err(Refusal::StateOutOfRange);
     }
     if !lists::all_in_range(low, high, inputs) {
-        return Before::Refused(limits::INPUT_OUT_OF_RANGE, 0);
+        return Err(Refusal::InputOutOfRange);
     }
     lists::take_row(work, state, inputs);
-    Before::Code(place, timing)
+    Ok(Code { place, timing })
 }
 
 // A row that ends with milliseconds: they are tested last.
@@ -52,10 +54,10 @@ fn before_timed(
     state: &[i32],
     row: &[i32],
     work: &mut [i32],
-) -> Before
+) -> Result<Code, Refusal>
     requires fitting_memory { FittingMemory m.inputs state.now low.now high.now work.old }
     requires row_len { (length row.now ≡ m.inputs + 1) × (length state.now ≡ m.names → ⊥) }
-    ensures result_value { (k : Shape) → KnownShape k m low.now high.now → before_answer result ≡ tested_row k state.now row.now }
+    ensures result_value { (k : Shape) → KnownShape k m low.now high.now → judged_by result ≡ tested_row k state.now row.now }
     ensures prepared_by { (k : Shape) → KnownShape k m low.now high.now
         → PreparedBy k m state.now row.now work.new result }
 {
@@ -66,14 +68,11 @@ fn before_timed(
         timers: m.timers,
         millis: arith::count(time),
     };
-    let tested = before_ranges(m.place, timing, low, high, state, &row[..inputs], work);
-    let Before::Code(_, _) = tested else {
-        return tested;
-    };
+    let tested = before_ranges(m.place, timing, low, high, state, &row[..inputs], work)?;
     if 0 <= time {
-        return tested;
+        return Ok(tested);
     }
-    Before::Refused(limits::INPUT_OUT_OF_RANGE, 0)
+    Err(Refusal::InputOutOfRange)
 }
 
 // An image known to be sound, whose shape was read, and a state of its length: 12 of the row, 18, 13. A state without elapsed times has no timers.
@@ -84,15 +83,15 @@ pub fn before_known(
     state: &[i32],
     row: &[i32],
     work: &mut [i32],
-) -> Before
+) -> Result<Code, Refusal>
     requires { FittingMemory m.inputs state.now low.now high.now work.old }
-    ensures result_value { (k : Shape) → KnownShape k m low.now high.now → before_answer result ≡ tested_row k state.now row.now }
+    ensures result_value { (k : Shape) → KnownShape k m low.now high.now → judged_by result ≡ tested_row k state.now row.now }
     ensures prepared_by { (k : Shape) → KnownShape k m low.now high.now
         → PreparedBy k m state.now row.now work.new result }
 {
     if state.len() == m.names {
         if row.len() != m.inputs {
-            return Before::Refused(limits::WRONG_LENGTH, 0);
+            return Err(Refusal::WrongLength);
         }
         let timing = Timing {
             names: m.names,
@@ -102,23 +101,25 @@ pub fn before_known(
         return before_ranges(m.place, timing, low, high, state, row, work);
     }
     if row.len() != m.inputs + 1 {
-        return Before::Refused(limits::WRONG_LENGTH, 0);
+        return Err(Refusal::WrongLength);
     }
     before_timed(m, low, high, state, row, work)
 }
 
 // 9, 11, then 12 of a state of so many numbers: the shape of an image whose states have as many.
-pub fn shape_for(image: &[u8], numbers: usize, low: &mut [i32], high: &mut [i32]) -> Shaped
+pub fn shape_for(
+    image: &[u8],
+    numbers: usize,
+    low: &mut [i32],
+    high: &mut [i32],
+) -> Result<Measured, Refusal>
     ensures { ShapedFor image.now numbers low.old high.old low.new high.new result }
 {
-    let shaped = shapes::shape(image, low, high);
-    let Shaped::Shape(m) = shaped else {
-        return shaped;
-    };
+    let m = shapes::shape(image, low, high)?;
     if numbers != m.size {
-        return Shaped::Refused(limits::WRONG_LENGTH, 0);
+        return Err(Refusal::WrongLength);
     }
-    shaped
+    Ok(m)
 }
 
 // 9, 11, 12, 18, 13; what the code's run needs then stands at the front of the lent memory.
@@ -129,24 +130,19 @@ pub fn before_code(
     low: &mut [i32],
     high: &mut [i32],
     work: &mut [i32],
-) -> Before
+) -> Result<Code, Refusal>
     requires { Scratch state_limit state.now low.old high.old work.old }
-    ensures result_value { before_answer result ≡ before_code image.now state.now row.now }
+    ensures result_value { judged_by result ≡ before_code image.now state.now row.now }
     ensures begun_by { BegunBy image.now state.now row.now low.new high.new work.new result }
 {
-    let shaped = shape_for(image, state.len(), low, high);
-    match shaped {
-        Shaped::Refused(number, place) => Before::Refused(number, place),
-        Shaped::Shape(m) => {
-            let size = m.size;
-            before_known(
-                m,
-                &low[..size],
-                &high[..size],
-                state,
-                row,
-                &mut work[..size],
-            )
-        }
-    }
+    let m = shape_for(image, state.len(), low, high)?;
+    let size = m.size;
+    before_known(
+        m,
+        &low[..size],
+        &high[..size],
+        state,
+        row,
+        &mut work[..size],
+    )
 }

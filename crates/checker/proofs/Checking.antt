@@ -9,7 +9,10 @@ use lib.IntN.{ℤ}
 use lib.ListN.{length, take, drop, length-map}
 use lib.Seq.{sets, length-sets, length-take-le}
 use borrow.Author.Tests.{le-leb, lt-leb}
+use Rattle.std.specs.Prelude.{Result}
 use Rattle.limits.specs.Answer.{accepted, refused}
+use Rattle.limits.specs.Refusals.{stands_for}
+use Rattle.limits.specs.declared.Refusal.{Refusal}
 use Rattle.leb128.proofs.Stores.{take_sets}
 use Rattle.semantics.specs.Program.{Range, known_first}
 use Rattle.semantics.specs.Shape.{has_timer}
@@ -19,12 +22,11 @@ use Rattle.bytecode.specs.Inner.Timers.{NoTimers}
 use Rattle.bytecode.specs.Results.{HeaderStands}
 use Rattle.bytecode.proofs.Limits.{none_has_timer}
 use Rattle.bytecode.proofs.SoundHeader.{header_found}
-use Rattle.checker.specs.declared.Checked.{Checked}
 use Rattle.checker.specs.declared.Verdict.TheVariants as J
 use Rattle.checker.specs.Inner.Walk.{known_of, initial_walk}
 use Rattle.checker.specs.Inner.Surveys.{ReadHeader}
 use Rattle.checker.specs.Inner.Timed.{RangesStand}
-use Rattle.checker.specs.Results.{checked_answer, Judges}
+use Rattle.checker.specs.Results.{Judges}
 use Rattle.checker.proofs.Walking.{answers_whole}
 
 -- numbers stored at the front of lent memory that has room for them
@@ -93,9 +95,9 @@ module _ (bytes : List ℕ) {low₀ high₀ start₀ low high start : List ℤ} 
           starting = stored (λ n. n.start) x.ranges names start₀ start x.many (omega arith) x.starting;
         }
 
-    pub timed_walked : length bytes ≤ 65536 → (r : Checked)
+    pub timed_walked : length bytes ≤ 65536 → (r : Result (Unit {0}) Refusal)
         → ((ns : List Range) → RangesStand ns (take names low) (take names high) (take names start)
-        → checked_answer r ≡ check_code ns place (drop place bytes) (length (drop place bytes)) 0 none (known [] false none (known_first inputs (length (take names low)))))
-        → checked_answer r ≡ check_of bytes
+        → stands_for r ≡ check_code ns place (drop place bytes) (length (drop place bytes)) 0 none (known [] false none (known_first inputs (length (take names low)))))
+        → stands_for r ≡ check_of bytes
     timed_walked l r w =
         w x.ranges ranges_stand ∙ (rw (length-take-le names low room_low) (sym (walked_header bytes l inputs names place x.ranges x.read x.many)))

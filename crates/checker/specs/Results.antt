@@ -1,42 +1,33 @@
--- What the answers of the walk and of check stand for: document 01's refusal number and place, or sound. Assumes nothing.
-use Rattle.std.specs.Prelude.{◌≡◌, false, List, ℕ, ◌+◌, ◌≤◌, length, get_or}
+-- What the walk and check say besides their answer. Assumes nothing.
+use Rattle.std.specs.Prelude.{◌≡◌, false, List, ℕ, ◌+◌, ◌≤◌, length, get_or, Result, Ok, Err}
 use Rattle.std.proofs.Math.Option.{Option}
 use Rattle.limits.specs.Limits.{image_limit, broken_image}
 use Rattle.limits.specs.Answer.{Answer, accepted, refused}
+use Rattle.limits.specs.Refusals.{place_of}
+use Rattle.limits.specs.declared.Refusal.{Refusal}
 use Rattle.semantics.specs.Program.{Range}
 use Rattle.semantics.specs.Shape.{has_timer}
 use Rattle.bytecode.specs.Instructions.{Instruction}
 use Rattle.bytecode.specs.Check.{Known, check_code}
 use Rattle.bytecode.specs.Parts.{limits_of}
 use Rattle.bytecode.specs.Inner.Timers.{NoTimers}
-use Rattle.checker.specs.declared.Checked.{Checked}
-use Rattle.checker.specs.declared.Checked.TheVariants.{Sound, Refused}
 use Rattle.checker.specs.declared.Surveyed.{Surveyed}
-use Rattle.checker.specs.declared.Surveyed.TheVariants as S
+use Rattle.checker.specs.declared.Surveyed.TheVariants.{Plain, Timed}
 use Rattle.checker.specs.declared.Verdict.{Verdict}
 use Rattle.checker.specs.declared.Verdict.TheVariants as J
 
-abbrev pub checked_answer : Checked → Answer (Unit {0})
-checked_answer Sound = accepted tt
-checked_answer (Refused number place) = refused number place
-
 -- a place is inside an image of allowed length, or at its end
-abbrev pub CheckedWithin : Checked → Type 0
-CheckedWithin Sound = Unit {0}
-CheckedWithin (Refused number place) = place ≤ image_limit
+abbrev pub CheckedWithin : Result (Unit {0}) Refusal → Type 0
+CheckedWithin (Ok _) = Unit {0}
+CheckedWithin (Err e) = place_of e ≤ image_limit
 
 -- ---- check that tells sound images without timers apart
 
-abbrev pub surveyed_answer : Surveyed → Answer (Unit {0})
-surveyed_answer S.Plain = accepted tt
-surveyed_answer S.Timed = accepted tt
-surveyed_answer (S.Refused number place) = refused number place
-
 -- a place is inside an image of allowed length, or at its end
-abbrev pub SurveyedBy : List ℕ → Surveyed → Type 0
-SurveyedBy image S.Plain = has_timer (limits_of image) ≡ false
-SurveyedBy image S.Timed = Unit {0}
-SurveyedBy image (S.Refused number place) = place ≤ image_limit
+abbrev pub SurveyedBy : List ℕ → Result Surveyed Refusal → Type 0
+SurveyedBy image (Ok Plain) = has_timer (limits_of image) ≡ false
+SurveyedBy image (Ok Timed) = Unit {0}
+SurveyedBy image (Err e) = place_of e ≤ image_limit
 
 -- ---- the walk alone
 

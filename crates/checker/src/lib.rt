@@ -3,24 +3,19 @@
 
 ghost use Rattle.std.specs.Prelude.{◌≡◌, ◌≤◌, length};
 ghost use Rattle.limits.specs.Limits.{name_limit};
+ghost use Rattle.limits.specs.Refusals.{stands_for, judged_by};
 ghost use Rattle.bytecode.specs.Check.{complete as completeOf, check_of};
 ghost use Rattle.checker.specs.Inner.Walk.{known_of, Small, initial_walk};
 ghost use Rattle.checker.specs.Inner.Surveys.{ReadHeader};
-ghost use Rattle.checker.specs.Results.{checked_answer, CheckedWithin, surveyed_answer, SurveyedBy, Judges, VerdictWithin};
+ghost use Rattle.checker.specs.Results.{CheckedWithin, SurveyedBy, Judges, VerdictWithin};
 
 use advance::Walk;
 use ahead::Stretch;
+use limits::Refusal;
 
 pub mod advance;
 pub mod ahead;
 pub mod timed;
-
-// Sound, or refused with document 01's number and place.
-#[derive(Clone, Copy)]
-pub enum Checked {
-    Sound,
-    Refused(u8, usize),
-}
 
 // Nothing is missing at the end: no value held, no gate without its pick, no pick without its settle, each variable with its rule.
 pub fn complete(w: Walk) -> bool
@@ -87,51 +82,47 @@ pub fn walk_from(code: &[u8], from: usize, first: Walk) -> Verdict
     Verdict::Broken(code.len())
 }
 
-// Sound and without timers, sound, or refused with document 01's number and place.
+// A sound image without timers, or any sound image.
 #[derive(Clone, Copy)]
 pub enum Surveyed {
     Plain,
     Timed,
-    Refused(u8, usize),
 }
 
 // The code behind a header that was read.
-fn survey_code(image: &[u8], inputs: usize, names: usize, place: usize) -> Surveyed
+fn survey_code(image: &[u8], inputs: usize, names: usize, place: usize) -> Result<Surveyed, Refusal>
     requires { ReadHeader image.now inputs names place }
-    ensures result_value { surveyed_answer result ≡ check_of image.now }
+    ensures result_value { judged_by result ≡ check_of image.now }
     ensures surveyed_by { SurveyedBy image.now result }
 {
     match walk_from(&image[place..], 0, initial(inputs, names)) {
-        Verdict::Sound => Surveyed::Plain,
-        Verdict::Broken(at) => Surveyed::Refused(limits::BROKEN_IMAGE, place + at),
+        Verdict::Sound => Ok(Surveyed::Plain),
+        Verdict::Broken(at) => Err(Refusal::BrokenImage(place + at)),
         Verdict::Timed => timed::survey_timed(image),
     }
 }
 
 // As `check`; a sound image without timers is told apart.
-pub fn survey(image: &[u8]) -> Surveyed
-    ensures result_value { surveyed_answer result ≡ check_of image.now }
+pub fn survey(image: &[u8]) -> Result<Surveyed, Refusal>
+    ensures result_value { judged_by result ≡ check_of image.now }
     ensures surveyed_by { SurveyedBy image.now result }
 {
     if limits::IMAGE_LIMIT < image.len() {
-        return Surveyed::Refused(limits::TOO_LONG, 0);
+        return Err(Refusal::TooLong);
     }
     let mut low = [0i32; 1];
     let mut high = [0i32; 1];
     let mut start = [0i32; 1];
     match bytecode::header(image, &mut low, &mut high, &mut start) {
-        bytecode::Headed::Broken(place) => Surveyed::Refused(limits::BROKEN_IMAGE, place),
+        bytecode::Headed::Broken(place) => Err(Refusal::BrokenImage(place)),
         bytecode::Headed::Header(inputs, names, place) => survey_code(image, inputs, names, place),
     }
 }
 
-pub fn check(image: &[u8]) -> Checked
-    ensures result_value { checked_answer result ≡ check_of image.now }
+pub fn check(image: &[u8]) -> Result<(), Refusal>
+    ensures result_value { stands_for result ≡ check_of image.now }
     ensures checked_within { CheckedWithin result }
 {
-    match survey(image) {
-        Surveyed::Plain => Checked::Sound,
-        Surveyed::Timed => Checked::Sound,
-        Surveyed::Refused(number, place) => Checked::Refused(number, place),
-    }
+    survey(image)?;
+    Ok(())
 }

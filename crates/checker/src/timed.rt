@@ -2,16 +2,18 @@
 ghost use Rattle.std.specs.Prelude.{List, [], ◌≡◌, false, ◌+◌, ◌^◌, ◌≤◌, ◌<◌, pos, length, get_or};
 ghost use Rattle.std.proofs.Math.Option.{Option, none};
 ghost use Rattle.limits.specs.Limits.{image_limit, name_limit};
+ghost use Rattle.limits.specs.Refusals.{stands_for, judged_by};
 ghost use Rattle.arith.specs.Values.{eq_z};
 ghost use Rattle.semantics.specs.Program.{Range, known_first};
 ghost use Rattle.bytecode.specs.Instructions.{Instruction, timer as timerOf, instruction_of};
 ghost use Rattle.bytecode.specs.Check.{known as knownAs, suits as suitsOf, check_code, check_of};
-ghost use Rattle.checker.specs.Results.{checked_answer, CheckedWithin, surveyed_answer, SurveyedBy};
+ghost use Rattle.checker.specs.Results.{CheckedWithin, SurveyedBy};
 ghost use Rattle.checker.specs.Inner.Walk.{known_of, advanced_known, advance_by, Small, SmallAfter};
 ghost use Rattle.checker.specs.Inner.Timed.{RangesStand, LastBy, PlainBy, TimedBy, TurnsBy};
 
 use crate::advance::{Advanced, Walk};
-use crate::{Checked, Surveyed, advance};
+use crate::{Surveyed, advance};
+use limits::Refusal;
 
 // The instruction before, as far as a timer asks: 1 plus the id of the variable whose rule or timer it is, or 0; and the least id of a timer that may follow it.
 #[derive(Clone, Copy)]
@@ -182,10 +184,10 @@ pub fn walk(
     high: &[i32],
     start: &[i32],
     inputs: usize,
-) -> Checked
+) -> Result<(), Refusal>
     requires { (inputs ≤ length low.now) × (length low.now ≤ name_limit) × (base + length code.now ≤ image_limit) }
     ensures result_value { (ns : List Range) → RangesStand ns low.now high.now start.now
-        → checked_answer result ≡ check_code ns base code.now (length code.now) 0 none (knownAs [] false none (known_first inputs (length low.now))) }
+        → stands_for result ≡ check_code ns base code.now (length code.now) 0 none (knownAs [] false none (known_first inputs (length low.now))) }
     ensures checked_within { CheckedWithin result }
 {
     let mut at = 0;
@@ -193,48 +195,51 @@ pub fn walk(
     let mut last = Last { of: 0, least: 0 };
     while at < code.len() {
         let Turned::Taken(k, l, next) = turn(code, at, w, last, low, high, start) else {
-            return Checked::Refused(limits::BROKEN_IMAGE, base + at);
+            return Err(Refusal::BrokenImage(base + at));
         };
         w = k;
         last = l;
         at = next;
     }
     if crate::complete(w) {
-        return Checked::Sound;
+        return Ok(());
     }
-    Checked::Refused(limits::BROKEN_IMAGE, base + code.len())
+    Err(Refusal::BrokenImage(base + code.len()))
 }
 
 // With the ranges that the walk over timers asks for: the image is read again from its start.
-fn survey_ranges(image: &[u8], low: &mut [i32], high: &mut [i32], start: &mut [i32]) -> Surveyed
+fn survey_ranges(
+    image: &[u8],
+    low: &mut [i32],
+    high: &mut [i32],
+    start: &mut [i32],
+) -> Result<Surveyed, Refusal>
     requires image_len_bound { length image.now ≤ image_limit }
     requires low_len { (length low.old ≡ name_limit) × (length high.old ≡ name_limit) × (length start.old ≡ name_limit) }
-    ensures result_value { surveyed_answer result ≡ check_of image.now }
+    ensures result_value { judged_by result ≡ check_of image.now }
     ensures surveyed_by { SurveyedBy image.now result }
 {
     match bytecode::header(image, low, high, start) {
-        bytecode::Headed::Broken(place) => Surveyed::Refused(limits::BROKEN_IMAGE, place),
+        bytecode::Headed::Broken(place) => Err(Refusal::BrokenImage(place)),
         bytecode::Headed::Header(inputs, names, place) => {
             let code = &image[place..];
-            match walk(
+            walk(
                 code,
                 place,
                 &low[..names],
                 &high[..names],
                 &start[..names],
                 inputs,
-            ) {
-                Checked::Sound => Surveyed::Timed,
-                Checked::Refused(number, at) => Surveyed::Refused(number, at),
-            }
+            )?;
+            Ok(Surveyed::Timed)
         }
     }
 }
 
 // Only an image with a timer pays for these.
-pub fn survey_timed(image: &[u8]) -> Surveyed
+pub fn survey_timed(image: &[u8]) -> Result<Surveyed, Refusal>
     requires { length image.now ≤ image_limit }
-    ensures result_value { surveyed_answer result ≡ check_of image.now }
+    ensures result_value { judged_by result ≡ check_of image.now }
     ensures surveyed_by { SurveyedBy image.now result }
 {
     let mut low = [0i32; limits::NAME_LIMIT];

@@ -12,10 +12,9 @@ use lib.IntN.{ℤ}
 use lib.ListN.{length, take, drop, get_elem?, length-map}
 use Rattle.semantics.specs.Program.{Range}
 use Rattle.semantics.specs.Formula.{State}
-use Rattle.closed.specs.Closed.{product_of_sizes, combinations, Combination, with_rows, paired}
-use Rattle.closed.specs.Results.{after_closing}
+use Rattle.limits.specs.Answer.{accepted, refused}
+use Rattle.closed.specs.Closed.{product_of_sizes, combinations, Combination, with_rows, paired, leaves}
 use Rattle.closed.specs.Inner.Parts.{IsNth, combined_ranges}
-use Rattle.closed.specs.declared.Closing.TheVariants as C
 use Rattle.closed.proofs.Combining.{combinations_count, paired_count}
 
 -- ---- the place of a pair
@@ -62,20 +61,20 @@ quotient_below index states rows h = by (ltb (index / rows) states) (ltb-true (i
 -- ---- the ways of combination
 
 module _ (ns : List Range) (inputs index : ℕ) (state row : List ℤ) (small : leb (product_of_sizes ns * product_of_sizes (take inputs ns)) 65536 ≡ true) where
-  pub combined_state : (length state ≡ length ns → ⊥) → after_closing (C.Refused 12 0) state row ≡ combined_ranges ns inputs index state row
+  pub combined_state : (length state ≡ length ns → ⊥) → leaves (refused 12 0) state row ≡ combined_ranges ns inputs index state row
   combined_state h = rw (small, ne_eqb (length state) (length ns) h)
 
-  pub combined_row : length state ≡ length ns → (length row ≡ inputs → ⊥) → after_closing (C.Refused 12 0) state row ≡ combined_ranges ns inputs index state row
+  pub combined_row : length state ≡ length ns → (length row ≡ inputs → ⊥) → leaves (refused 12 0) state row ≡ combined_ranges ns inputs index state row
   combined_row e h = rw (small, eq-eqb (length state) (length ns) e, ne_eqb (length row) inputs h)
 
   module _ (e : length state ≡ length ns) (f : length row ≡ inputs) (states rows : ℕ) (p : states ≡ product_of_sizes ns) (q : rows ≡ product_of_sizes (take inputs ns)) where
-    pub combined_none : states * rows ≤ index → after_closing (C.Refused 12 0) state row ≡ combined_ranges ns inputs index state row
+    pub combined_none : states * rows ≤ index → leaves (refused 12 0) state row ≡ combined_ranges ns inputs index state row
     combined_none h =
         let n : length (paired (combinations ns) (combinations (take inputs ns))) ≡ states * rows = paired_count (combinations ns) (combinations (take inputs ns)) ∙ rw (combinations_count ns, combinations_count (take inputs ns), p, q) in
         let k : get_elem? (paired (combinations ns) (combinations (take inputs ns))) index ≡ none = none_at (paired (combinations ns) (combinations (take inputs ns))) index (omega arith) in
         rw (small, eq-eqb (length state) (length ns) e, eq-eqb (length row) inputs f, k)
 
-    pub combined_found : (s r : List ℤ) → IsNth ns (index / rows) s → IsNth (take inputs ns) (index % rows) r → after_closing C.Closed s r ≡ combined_ranges ns inputs index state row
+    pub combined_found : (s r : List ℤ) → IsNth ns (index / rows) s → IsNth (take inputs ns) (index % rows) r → leaves (accepted tt) s r ≡ combined_ranges ns inputs index state row
     combined_found s r a b =
         let n : index / rows * length (combinations (take inputs ns)) + index % rows ≡ index = rw (combinations_count (take inputs ns), ← q) (div-add-mod' index rows) in
         let k : get_elem? (paired (combinations ns) (combinations (take inputs ns))) index ≡ some (record { state = s; row = r }) = rw n at (pair_at_lem s r (combinations ns) (combinations (take inputs ns)) (index / rows) (index % rows) a b) in

@@ -21,11 +21,9 @@ use Rattle.bytecode.proofs.Limits.{no_times}
 use Rattle.bytecode.proofs.CheckNumbers.{CheckRefusal, too_long_lem, broken, check_numbers}
 use Rattle.machine.specs.Inner.Memory.{RangesIn}
 use Rattle.closed.specs.Closed.{product_of_sizes, input_ranges, is_small, combinations, Combination, paired, combinations_of, every_accepted, refused_at, walked, AfterClosed, leaves, if_small, combined_in, combination_of}
-use Rattle.closed.specs.Results.{after_closing}
 use Rattle.closed.specs.Inner.Parts.{working, Walking, visited_as, part_working, combined_ranges}
 use Rattle.closed.specs.declared.Visited.{Visited}
 use Rattle.closed.specs.declared.Visited.TheVariants as W
-use Rattle.closed.specs.declared.Closing.TheVariants as C
 use Rattle.closed.proofs.Combining.{combinations_count, paired_count}
 use Rattle.closed.proofs.Walks.{ahead}
 
@@ -51,12 +49,12 @@ module _ (image : List ℕ) (state row : List ℤ) where
 
   module _ (f : List ℤ → List ℤ → AfterClosed) where
     -- 9 and 11
-    pub small_refused : (number place : ℕ) → check_of image ≡ refused number place → after_closing (C.Refused number place) state row ≡ if_small (check_of image) (shape_in image) f state row
+    pub small_refused : (number place : ℕ) → check_of image ≡ refused number place → leaves (refused number place) state row ≡ if_small (check_of image) (shape_in image) f state row
     small_refused number place e = rw e
 
     module _ (sound : check_of image ≡ accepted tt) where
       -- 26 a timer
-      pub small_timed : has_timer (limits_of image) ≡ true → after_closing (C.Refused 26 0) state row ≡ if_small (check_of image) (shape_in image) f state row
+      pub small_timed : has_timer (limits_of image) ≡ true → leaves (refused 26 0) state row ≡ if_small (check_of image) (shape_in image) f state row
       unfolding is_small
       small_timed e = rw (sound, e)
 
@@ -131,7 +129,7 @@ module _ (ns : List Range) (inputs : ℕ) (code : List ℕ) (first most : ℕ) (
   combos_count = paired_count (combinations ns) (combinations (take inputs ns)) ∙ ap₂ (λ (m n : ℕ). m * n) (combinations_count ns) (combinations_count (take inputs ns))
 
   -- a part beyond the last is empty
-  pub closed_beyond : product_of_sizes ns * product_of_sizes (take inputs ns) ≤ first → after_closing C.Closed state row ≡ part_working ns inputs code first most state row
+  pub closed_beyond : product_of_sizes ns * product_of_sizes (take inputs ns) ≤ first → leaves (accepted tt) state row ≡ part_working ns inputs code first most state row
   closed_beyond h =
       let k : length combos ≤ first = omega (arith, combos_count) in
       let d : drop first combos ≡ [] = drop_of_length-le combos k in
@@ -142,11 +140,11 @@ module _ (ns : List Range) (inputs : ℕ) (code : List ℕ) (first most : ℕ) (
     part_is = ap (λ (l : List Combination). walked (working ns code) l first) (taken_before combos first most end _ combos_count h m)
 
     pub closed_through : (r : Visited) (s t : List ℤ) → visited_as r s t ≡ ahead (working ns code) ns (take inputs ns) end first → r ≡ W.Every
-        → after_closing C.Closed state row ≡ part_working ns inputs code first most state row
+        → leaves (accepted tt) state row ≡ part_working ns inputs code first most state row
     closed_through r s t e q = let k : walked (working ns code) (take most (drop first combos)) first ≡ every_accepted = sym part_is ∙ sym e ∙ ap (λ (x : Visited). visited_as x s t) q in rw (small, k)
 
     pub closed_stopped : (r : Visited) (s t left right : List ℤ) (n : ℕ) → visited_as r s t ≡ ahead (working ns code) ns (take inputs ns) end first → r ≡ W.Until n
-        → left ≡ with_inputs state s → right ≡ with_inputs row t → after_closing (C.Refused 27 n) left right ≡ part_working ns inputs code first most state row
+        → left ≡ with_inputs state s → right ≡ with_inputs row t → leaves (refused 27 n) left right ≡ part_working ns inputs code first most state row
     closed_stopped r s t left right n e q a b =
         let k : walked (working ns code) (take most (drop first combos)) first ≡ refused_at n (record { state = s; row = t }) = sym part_is ∙ sym e ∙ ap (λ (x : Visited). visited_as x s t) q in
         rw (small, k, a, b)

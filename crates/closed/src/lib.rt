@@ -11,8 +11,8 @@ ghost use Rattle.closed.specs.Closed.{size_between, product_of_sizes, combinatio
 ghost use Rattle.closed.specs.Results.{after_closing, ClosingWithin, profile_of};
 ghost use Rattle.closed.specs.Inner.Parts.{next_of, is_refused, working, Walking, visited_as, VisitedWithin, part_working, ClosedRoom, combined_ranges, IsNth};
 
+use limits::Refusal;
 use machine::{Registers, Stepped, lists};
-use shapes::Shaped;
 
 // How many values a range has.
 fn size(low: i32, high: i32) -> usize
@@ -152,13 +152,6 @@ fn walk(
     Visited::Every
 }
 
-// Closed; or the number of a refusal and its place, for 27 the scans done before.
-#[derive(Clone, Copy)]
-pub enum Closing {
-    Closed,
-    Refused(u8, usize),
-}
-
 // The product, then the walk. `state` and `row` are written only where a scan is refused.
 fn closed_ranges(
     code: &[u8],
@@ -173,7 +166,7 @@ fn closed_ranges(
     vals: &mut [i32],
     state: &mut [i32],
     row: &mut [i32],
-) -> Closing
+) -> Result<(), Refusal>
     requires inputs_in_bounds { inputs ≤ length low.now }
     requires walking { Walking low.now high.now (take inputs low.now) (take inputs high.now) at_state.old at_row.old work.old vals.old }
     requires low_in_bounds { (length low.now ≤ length state.old) × (inputs ≤ length row.old) }
@@ -185,10 +178,10 @@ fn closed_ranges(
     let rows = product_of_sizes(&low[..inputs], &high[..inputs]);
     let all = states * rows;
     if limits::COMBINATION_LIMIT < all {
-        return Closing::Refused(limits::NOT_SMALL, 0);
+        return Err(Refusal::NotSmall);
     }
     if all <= first {
-        return Closing::Closed;
+        return Ok(());
     }
     let end = lists::behind(first, most, all);
     let ended = walk(
@@ -206,11 +199,11 @@ fn closed_ranges(
         vals,
     );
     let Visited::Until(done) = ended else {
-        return Closing::Closed;
+        return Ok(());
     };
     lists::fill(state, at_state);
     lists::fill(row, at_row);
-    Closing::Refused(limits::NOT_CLOSED, done)
+    Err(Refusal::NotClosed(done))
 }
 
 // 9, 11, 26, 27, in lent memory. More numbers in a state than names: there is a timer.
@@ -226,44 +219,39 @@ fn closed_in(
     vals: &mut [i32],
     state: &mut [i32],
     row: &mut [i32],
-) -> Closing
+) -> Result<(), Refusal>
     requires name_limit_in_bounds { (name_limit ≤ length at_state.old) × (name_limit ≤ length at_row.old) }
     requires closed_room { ClosedRoom low.old high.old work.old vals.old state.old row.old }
     ensures row_after { after_closing result state.new row.new ≡ part_in image.now first most state.old row.old }
     ensures closing_within { ClosingWithin result }
 {
-    let shaped = shapes::shape(image, low, high);
-    match shaped {
-        Shaped::Refused(number, place) => Closing::Refused(number, place),
-        Shaped::Shape(m) => {
-            if m.names < m.size {
-                return Closing::Refused(limits::NOT_SMALL, 0);
-            }
-            let inputs = m.inputs;
-            let names = m.names;
-            let place = m.place;
-            closed_ranges(
-                &image[place..],
-                inputs,
-                &low[..names],
-                &high[..names],
-                first,
-                most,
-                &mut at_state[..names],
-                &mut at_row[..inputs],
-                &mut work[..names],
-                vals,
-                state,
-                row,
-            )
-        }
+    let m = shapes::shape(image, low, high)?;
+    if m.names < m.size {
+        return Err(Refusal::NotSmall);
     }
+    let inputs = m.inputs;
+    let names = m.names;
+    let place = m.place;
+    closed_ranges(
+        &image[place..],
+        inputs,
+        &low[..names],
+        &high[..names],
+        first,
+        most,
+        &mut at_state[..names],
+        &mut at_row[..inputs],
+        &mut work[..names],
+        vals,
+        state,
+        row,
+    )
 }
 
 // The answer; for 27, the state and the row of the refused scan stand at the front of the two.
 #[derive(Clone, Copy)]
 pub struct Profile {
-    pub answer: Closing,
+    pub answer: Result<(), Refusal>,
     pub state: [i32; limits::NAME_LIMIT],
     pub row: [i32; limits::NAME_LIMIT],
 }
@@ -317,7 +305,7 @@ fn combination_ranges(
     index: usize,
     state: &mut [i32],
     row: &mut [i32],
-) -> Closing
+) -> Result<(), Refusal>
     requires { (inputs ≤ length low.now) × (length high.now ≡ length low.now) }
     ensures row_after { (ns : List Range) → RangesIn ns low.now high.now
         → after_closing result state.new row.new ≡ combined_ranges ns inputs index state.old row.old }
@@ -326,20 +314,20 @@ fn combination_ranges(
     let states = product_of_sizes(low, high);
     let rows = product_of_sizes(&low[..inputs], &high[..inputs]);
     if limits::COMBINATION_LIMIT < states * rows {
-        return Closing::Refused(limits::NOT_SMALL, 0);
+        return Err(Refusal::NotSmall);
     }
     if state.len() != low.len() {
-        return Closing::Refused(limits::WRONG_LENGTH, 0);
+        return Err(Refusal::WrongLength);
     }
     if row.len() != inputs {
-        return Closing::Refused(limits::WRONG_LENGTH, 0);
+        return Err(Refusal::WrongLength);
     }
     if states * rows <= index {
-        return Closing::Refused(limits::WRONG_LENGTH, 0);
+        return Err(Refusal::WrongLength);
     }
     nth(low, high, index / rows, state);
     nth(&low[..inputs], &high[..inputs], index % rows, row);
-    Closing::Closed
+    Ok(())
 }
 
 fn combination_in(
@@ -349,26 +337,26 @@ fn combination_in(
     row: &mut [i32],
     low: &mut [i32],
     high: &mut [i32],
-) -> Closing
+) -> Result<(), Refusal>
     requires { (name_limit ≤ length low.old) × (name_limit ≤ length high.old) }
     ensures row_after { after_closing result state.new row.new ≡ combination_of image.now index state.old row.old }
     ensures closing_within { ClosingWithin result }
 {
-    let shaped = shapes::shape(image, low, high);
-    match shaped {
-        Shaped::Refused(number, place) => Closing::Refused(number, place),
-        Shaped::Shape(m) => {
-            if m.names < m.size {
-                return Closing::Refused(limits::NOT_SMALL, 0);
-            }
-            let names = m.names;
-            combination_ranges(m.inputs, &low[..names], &high[..names], index, state, row)
-        }
+    let m = shapes::shape(image, low, high)?;
+    if m.names < m.size {
+        return Err(Refusal::NotSmall);
     }
+    let names = m.names;
+    combination_ranges(m.inputs, &low[..names], &high[..names], index, state, row)
 }
 
 // The state and the row of a number that 27 gave: 9, 11, 26, 12.
-pub fn combination(image: &[u8], index: usize, state: &mut [i32], row: &mut [i32]) -> Closing
+pub fn combination(
+    image: &[u8],
+    index: usize,
+    state: &mut [i32],
+    row: &mut [i32],
+) -> Result<(), Refusal>
     ensures row_after { after_closing result state.new row.new ≡ combination_of image.now index state.old row.old }
     ensures closing_within { ClosingWithin result }
 {

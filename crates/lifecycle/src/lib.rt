@@ -10,10 +10,8 @@ ghost use Rattle.resumable.specs.Instalment.{after_call};
 ghost use Rattle.lifecycle.specs.Calls.{same_values, after_finish, finish_of, or_refused, begin_of, with_row, post_of};
 ghost use Rattle.lifecycle.specs.Inner.Parts.{finish_ended, kept_start, layout_with, StartKeepable, Beginning, FullScratch, RowWaits};
 
-use before::Before;
 use machine::{Timing, lists};
 use paused::{Checkpoint, Layout, Response};
-use shapes::Shaped;
 
 // One more than its length is kept of a row that waits.
 const BEFORE_ROW: usize = paused::ROW - 1;
@@ -168,10 +166,17 @@ fn begin_in(
     let tried = before::before_code(image, state, &paused[paused::ROW..end], low, high, work);
     put(paused, paused::WAITING, 0);
     match tried {
-        Before::Refused(number, place) => Response::Refused(number, place, 0),
-        Before::Code(place, timing) => {
-            begin_code(paused, image.len(), place, timing, state, low, high, work)
-        }
+        Err(e) => Response::Refused(e.number(), e.place(), 0),
+        Ok(c) => begin_code(
+            paused,
+            image.len(),
+            c.place,
+            c.timing,
+            state,
+            low,
+            high,
+            work,
+        ),
     }
 }
 
@@ -245,9 +250,8 @@ pub fn post(paused: &mut [i32], image: &[u8], row: &[i32]) -> Response
     }
     let mut low = [0i32; 1];
     let mut high = [0i32; 1];
-    let shaped = shapes::shape(image, &mut low, &mut high);
-    match shaped {
-        Shaped::Refused(number, place) => Response::Refused(number, place, 0),
-        Shaped::Shape(m) => post_row(paused, row, row_length(m.inputs, m.names, m.size)),
+    match shapes::shape(image, &mut low, &mut high) {
+        Err(e) => Response::Refused(e.number(), e.place(), 0),
+        Ok(m) => post_row(paused, row, row_length(m.inputs, m.names, m.size)),
     }
 }

@@ -33,7 +33,7 @@ number_of (WrongTimer at) = wrong_timer
 number_of StateDiffers = state_differs
 number_of OutOfShare = out_of_share
 number_of NotSmall = not_small
-number_of NotClosed = not_closed
+number_of (NotClosed at) = not_closed
 number_of NotChargeable = not_chargeable
 number_of ChargeTooLarge = charge_too_large
 number_of (TooManyWatches at) = too_many_watches
@@ -66,7 +66,7 @@ place_of (WrongTimer at) = at
 place_of StateDiffers = 0
 place_of OutOfShare = 0
 place_of NotSmall = 0
-place_of NotClosed = 0
+place_of (NotClosed at) = at
 place_of NotChargeable = 0
 place_of ChargeTooLarge = 0
 place_of (TooManyWatches at) = at
@@ -75,3 +75,8 @@ place_of (TooManyWatches at) = at
 abbrev pub stands_for : {A : Type 0} → Result A Refusal → Answer A
 stands_for (Ok a) = accepted a
 stands_for (Err e) = refused (number_of e) (place_of e)
+
+-- the same of a result that holds more than the answer says
+abbrev pub judged_by : {A : Type 0} → Result A Refusal → Answer (Unit {0})
+judged_by (Ok a) = accepted tt
+judged_by (Err e) = refused (number_of e) (place_of e)

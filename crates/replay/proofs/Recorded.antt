@@ -15,9 +15,7 @@ use Rattle.semantics.specs.Rows.{if_accepted, accepted_states, final_state}
 use Rattle.bytecode.specs.Check.{check_of}
 use Rattle.bytecode.specs.Parts.{shape_in}
 use Rattle.semantics.specs.Shape.{state_length, starting_state, values_of}
-use Rattle.scan.specs.declared.Started.TheVariants as S
 use Rattle.scan.specs.Services.{AfterStart, started, start_of, scan_of, scans_of}
-use Rattle.scan.specs.Results.{after_start}
 use Rattle.correctness.specs.TraceCorrect.{verdict_of, reply_of}
 use Rattle.leb128.proofs.Stores.{sets_clip, sets_append}
 use Rattle.replay.specs.declared.Replayed.TheVariants as R
@@ -75,13 +73,13 @@ start_keeps image s number place = go (check_of image)
     go (accepted u) e = by (eqb (length s) (state_length (shape_in image))) e
 
 module _ (image buffer : List ℕ) (rows : List (List ℤ)) (s s₁ : State) (numbers steps : List ℕ) (trace : List ℤ) where
-  pub replay_refused : (n number place : ℕ) → after_start (S.Refused number place) s₁ ≡ start_of image s
+  pub replay_refused : (n number place : ℕ) → ◌≡◌ {A = AfterStart} (record { answer = refused number place; state = s₁ }) (start_of image s)
       → after_replay (R.Refused number place) (lent buffer s₁ numbers steps trace) ≡ replay_rows (start_of image s) n image rows (lent buffer s numbers steps trace)
   replay_refused n number place e =
       let k : s₁ ≡ s = ap {A = AfterStart} (λ r. r.state) e ∙ start_keeps image s number place (sym (ap {A = AfterStart} (λ r. r.answer) e)) in
       rw (← e, k)
 
-  pub replay_done : (n at place : ℕ) (s₂ : State) (numbers₂ steps₂ : List ℕ) (trace₁ trace₂ : List ℤ) → after_start S.Done s₁ ≡ start_of image s → trace₁ ≡ sets trace 0 s₁
+  pub replay_done : (n at place : ℕ) (s₂ : State) (numbers₂ steps₂ : List ℕ) (trace₁ trace₂ : List ℤ) → ◌≡◌ {A = AfterStart} (record { answer = accepted tt; state = s₁ }) (start_of image s) → trace₁ ≡ sets trace 0 s₁
       → at ≡ min (0 + length s₁) (length trace) → records s₂ numbers₂ steps₂ trace₂ place ≡ scan_rows image 0 rows (records s₁ numbers steps trace₁ at)
       → after_replay (R.Done n) (lent buffer s₂ numbers₂ steps₂ trace₂) ≡ replay_rows (start_of image s) n image rows (lent buffer s numbers steps trace)
   replay_done n at place s₂ numbers₂ steps₂ trace₁ trace₂ e t l h =

@@ -11,7 +11,7 @@ ghost use Rattle.replay.specs.Inner.Records.{records, record_scan, scan_rows, Kn
 
 use machine::lists;
 use scan::Scanned;
-use shapes::{Measured, Shaped};
+use shapes::Measured;
 
 // The image's length; or the number and place of the refusal of translation or start.
 #[derive(Clone, Copy)]
@@ -122,10 +122,9 @@ fn replay_in(
         (lent buffer state.old numbers.old steps.old trace.old) }
     ensures replayed_within { ReplayedWithin result }
 {
-    let shaped = scan::start_shape(image, state, low, high);
-    match shaped {
-        Shaped::Refused(number, place) => Replayed::Refused(number, place),
-        Shaped::Shape(m) => {
+    match scan::start_shape(image, state, low, high) {
+        Err(e) => Replayed::Refused(e.number(), e.place()),
+        Ok(m) => {
             let size = m.size;
             let at = lists::store(trace, 0, state);
             scan_rows(

@@ -1,7 +1,8 @@
 // The services as C functions. include/rolvenko.h declares them.
 #![tactic(auto)]
 
-ghost use Rattle.std.specs.Prelude.{◌≡◌};
+ghost use Rattle.std.specs.Prelude.{◌≡◌, ◌^◌, ◌<◌, IfErr};
+ghost use Rattle.limits.specs.Refusals.{number_of, place_of, stands_for};
 ghost use Rattle.bytecode.specs.Check.{check_of};
 ghost use Rattle.scan.specs.Services.{start_of, scan_of};
 ghost use Rattle.replay.specs.Replay.{replay_of, ShownIf};
@@ -18,6 +19,26 @@ ghost use Rattle.rolvenko.specs.Packed.{packed_translation, packed_check, packed
 ghost use Rattle.translate.specs.Services.{translation_of};
 ghost use Rattle.structured_text.specs.Services.{structured_text_of};
 ghost use Rattle.watch.specs.Services.{watch_of};
+
+use limits::Refusal;
+
+fn pack_refusal(e: Refusal) -> u64
+    requires { place_of e < 2 ^ 32 }
+    ensures { result ≡ packed (number_of e) (place_of e) 0 }
+{
+    paused::pack(e.number(), e.place(), 0)
+}
+
+// The answer of a service that says no more than whether it refuses.
+fn pack_check(r: Result<(), Refusal>) -> u64
+    requires { IfErr r (λ e. place_of e < 2 ^ 32) }
+    ensures { result ≡ packed_check (stands_for r) }
+{
+    match r {
+        Ok(()) => 0,
+        Err(e) => pack_refusal(e),
+    }
+}
 
 #[unsafe(no_mangle)]
 pub extern "C" fn rolvenko_translate(text: &[u8], image: &mut [u8]) -> u64
@@ -45,10 +66,7 @@ pub extern "C" fn rolvenko_structured_text(text: &[u8], out: &mut [u8]) -> u64
 pub extern "C" fn rolvenko_check(image: &[u8]) -> u64
     ensures { result ≡ packed_check (check_of image.now) }
 {
-    match checker::check(image) {
-        checker::Checked::Sound => 0,
-        checker::Checked::Refused(number, place) => paused::pack(number, place, 0),
-    }
+    pack_check(checker::check(image))
 }
 
 #[unsafe(no_mangle)]
@@ -56,10 +74,7 @@ pub extern "C" fn rolvenko_start(image: &[u8], state: &mut [i32]) -> u64
     ensures value { result ≡ packed_check (start_of image.now state.old).answer }
     ensures state_after { state.new ≡ (start_of image.now state.old).state }
 {
-    match scan::start(image, state) {
-        scan::Started::Done => 0,
-        scan::Started::Refused(number, place) => paused::pack(number, place, 0),
-    }
+    pack_check(scan::start(image, state))
 }
 
 #[unsafe(no_mangle)]
@@ -125,8 +140,8 @@ pub extern "C" fn rolvenko_charge(
     ensures { result ≡ packed_charge (charge_of image.now id trace.now minutes.now threshold rate rate_above) }
 {
     match charge::charge(image, id, trace, minutes, threshold, rate, rate_above) {
-        charge::Charged::Sum(cents, sixtieths) => 60 * cents + sixtieths,
-        charge::Charged::Refused(number, place) => paused::pack(number, place, 0),
+        Ok(a) => 60 * a.cents + a.sixtieths,
+        Err(e) => pack_refusal(e),
     }
 }
 
@@ -135,11 +150,7 @@ pub extern "C" fn rolvenko_closed(image: &[u8]) -> u64
     ensures { result ≡ packed_check (closed_of image.now).answer }
 {
     let profile = closed::closed_profile(image);
-    let answer = profile.answer;
-    match answer {
-        closed::Closing::Closed => 0,
-        closed::Closing::Refused(number, at) => paused::pack(number, at, 0),
-    }
+    pack_check(profile.answer)
 }
 
 #[unsafe(no_mangle)]
@@ -147,11 +158,7 @@ pub extern "C" fn rolvenko_closed_part(image: &[u8], first: usize, most: usize) 
     ensures { result ≡ packed_check (closed_part_of image.now first most).answer }
 {
     let part = closed::closed_part(image, first, most);
-    let answer = part.answer;
-    match answer {
-        closed::Closing::Closed => 0,
-        closed::Closing::Refused(number, position) => paused::pack(number, position, 0),
-    }
+    pack_check(part.answer)
 }
 
 #[unsafe(no_mangle)]
@@ -165,10 +172,7 @@ pub extern "C" fn rolvenko_combination(
     ensures state_after { state.new ≡ (combination_of image.now index state.old row.old).state }
     ensures row_after { row.new ≡ (combination_of image.now index state.old row.old).row }
 {
-    match closed::combination(image, index as usize, state, row) {
-        closed::Closing::Closed => 0,
-        closed::Closing::Refused(number, place) => paused::pack(number, place, 0),
-    }
+    pack_check(closed::combination(image, index as usize, state, row))
 }
 
 #[unsafe(no_mangle)]

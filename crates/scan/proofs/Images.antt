@@ -9,6 +9,7 @@ use lib.Dec.{eqb}
 use lib.IntN.{ℤ, pos}
 use lib.ListN.{length, take, drop, replicate, length-replicate, replicate-append-replicate, drop_of_length-le, get_or-eq_default}
 use lib.Seq.{sets, length-sets, sets-eq}
+use Rattle.std.specs.Prelude.{Ok}
 use Rattle.limits.specs.Answer.{Answer, accepted, refused}
 use Rattle.leb128.proofs.Stores.{sets_past, sets_append}
 use Rattle.semantics.specs.Formula.{State, at}
@@ -29,7 +30,6 @@ use Rattle.checker.proofs.Checking.{stored}
 use Rattle.scan.specs.Services.{AfterStart, started, start_of, refused_scan, scan_of}
 use Rattle.scan.specs.Results.{after_start, after_scan}
 use Rattle.scan.specs.Inner.Parts.{plain_setting}
-use Rattle.scan.specs.declared.Started.TheVariants as S
 use Rattle.scan.specs.declared.Scanned.TheVariants as R
 
 -- ---- start
@@ -38,7 +38,7 @@ abbrev unstarted : State → Answer (Unit {0}) → AfterStart
 unstarted found a = record { answer = a; state = found }
 
 -- what is refused before a state is written
-pub start_for : (image : List ℕ) (found : State) (n p : ℕ) → refused n p ≡ tested_length (check_of image) (shape_in image) (length found) → after_start (S.Refused n p) found ≡ start_of image found
+pub start_for : (image : List ℕ) (found : State) (n p : ℕ) → refused n p ≡ tested_length (check_of image) (shape_in image) (length found) → unstarted found (refused n p) ≡ start_of image found
 unfolding start_of
 start_for image found n p = go (check_of image)
   where
@@ -70,7 +70,7 @@ module _ (image : List ℕ) (found : State) (sound : check_of image ≡ accepted
 
   -- the declared starts are stored at the front of the state, zeros behind them
   pub start_done : (names : ℕ) (filled left : State) → length found ≡ state_length (shape_in image) → length (header_of image).ranges ≡ names → filled ≡ sets found 0 (starts (header_of image).ranges)
-      → left ≡ sets filled names (replicate 64 (pos 0)) → after_start S.Done left ≡ start_of image found
+      → left ≡ sets filled names (replicate 64 (pos 0)) → after_start (Ok tt) left ≡ start_of image found
   unfolding start_of
   start_done names filled left h n f e =
       let k = shape_in image in

@@ -1,20 +1,16 @@
 -- What the answers of start and scan stand for: document 01's number, place and steps. Assumes nothing.
-use Rattle.std.specs.Prelude.{ℕ, ◌≤◌}
+use Rattle.std.specs.Prelude.{ℕ, ◌≤◌, Result, Ok, Err}
 use Rattle.limits.specs.Answer.{Answer, accepted, refused}
+use Rattle.limits.specs.Refusals.{place_of, stands_for}
+use Rattle.limits.specs.declared.Refusal.{Refusal}
 use Rattle.semantics.specs.Formula.{State}
-use Rattle.scan.specs.declared.Started.{Started}
 use Rattle.scan.specs.declared.Scanned.{Scanned}
 use Rattle.scan.specs.Services.{AfterStart, AfterScan}
-use Rattle.scan.specs.declared.Started.TheVariants as S
 use Rattle.scan.specs.declared.Scanned.TheVariants as R
 
-abbrev pub start_answer : Started → Answer (Unit {0})
-start_answer S.Done = accepted tt
-start_answer (S.Refused number place) = refused number place
-
 -- the answer with the state that is left
-abbrev pub after_start : Started → State → AfterStart
-after_start r left = record { answer = start_answer r; state = left }
+abbrev pub after_start : Result (Unit {0}) Refusal → State → AfterStart
+after_start r left = record { answer = stands_for r; state = left }
 
 -- `Done` holds the steps, `Refused` the number, the place and the steps.
 abbrev pub scan_answer : Scanned → Answer (Unit {0})
@@ -30,9 +26,9 @@ after_scan r left = record { answer = scan_answer r; steps = scan_steps r; state
 
 -- ---- how large these numbers are, which the C functions pack into 64 bits
 
-abbrev pub StartedWithin : ℕ → Started → Type 0
-StartedWithin most S.Done = Unit {0}
-StartedWithin most (S.Refused number place) = place ≤ most
+abbrev pub StartedWithin : ℕ → Result (Unit {0}) Refusal → Type 0
+StartedWithin most (Ok _) = Unit {0}
+StartedWithin most (Err e) = place_of e ≤ most
 
 abbrev pub ScannedWithin : ℕ → Scanned → Type 0
 ScannedWithin most (R.Done n) = n ≤ most

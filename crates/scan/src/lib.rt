@@ -5,6 +5,7 @@ ghost use Rattle.std.specs.Prelude.{◌≡◌, true, false, ◌≤◌, pos, leng
 ghost use Rattle.std.proofs.lemmas.List.Edits.{sets};
 ghost use Rattle.limits.specs.Limits.{image_limit, name_limit, state_limit, stack_limit};
 ghost use Rattle.limits.specs.Answer.{accepted};
+ghost use Rattle.limits.specs.Refusals.{number_of, place_of};
 ghost use Rattle.semantics.specs.Shape.{has_timer, all_within, Setting};
 ghost use Rattle.bytecode.specs.Check.{check_of};
 ghost use Rattle.bytecode.specs.Parts.{header_of, limits_of};
@@ -15,25 +16,25 @@ ghost use Rattle.scan.specs.Services.{start_of, refused_scan, scan_of};
 ghost use Rattle.scan.specs.Results.{after_start, StartedWithin, after_scan, ScannedWithin};
 ghost use Rattle.scan.specs.Inner.Parts.{ran_over, scanned_over, KnownHeader, StartedFor};
 
-use before::Before;
 use bytecode::Headed;
 use checker::Surveyed;
 use fused::Ended;
+use limits::Refusal;
 use machine::{Executed, Registers, Stepped, Timing, lists};
-use shapes::{Measured, Shaped};
+use shapes::Measured;
 
-// Done, or the number of a refusal and its place.
-#[derive(Clone, Copy)]
-pub enum Started {
-    Done,
-    Refused(u8, usize),
-}
-
-// The steps; or the number of a refusal, its place and the steps.
+// The steps; or the number of a refusal, its place and the steps. No Result<_, Refusal>: the number of a refused step is `machine::Stepped`'s u8, and C sees the steps of both.
 #[derive(Clone, Copy)]
 pub enum Scanned {
     Done(usize),
     Refused(u8, usize, usize),
+}
+
+// A refusal before the first step.
+fn refused(e: Refusal) -> Scanned
+    ensures { result ≡ Scanned.Refused (number_of e) (place_of e) 0 }
+{
+    Scanned::Refused(e.number(), e.place(), 0)
 }
 
 // The whole run of a code; in a state without elapsed times by the loop that works no timers.
@@ -109,10 +110,9 @@ pub fn scan_known(
     ensures scanned_within { ScannedWithin image_limit result }
 {
     let place = m.place;
-    let tested = before::before_known(m, low, high, state, row, work);
-    match tested {
-        Before::Refused(number, _) => Scanned::Refused(number, 0, 0),
-        Before::Code(_, timing) => run_over(&image[place..], state, low, high, work, vals, timing),
+    match before::before_known(m, low, high, state, row, work) {
+        Err(e) => refused(e),
+        Ok(c) => run_over(&image[place..], state, low, high, work, vals, c.timing),
     }
 }
 
@@ -131,10 +131,9 @@ fn scan_begun(
     ensures state_after { after_scan result state.new ≡ scan_of image.now state.old row.now }
     ensures scanned_within { ScannedWithin image_limit result }
 {
-    let shaped = before::shape_for(image, state.len(), low, high);
-    match shaped {
-        Shaped::Refused(number, place) => Scanned::Refused(number, place, 0),
-        Shaped::Shape(m) => {
+    match before::shape_for(image, state.len(), low, high) {
+        Err(e) => refused(e),
+        Ok(m) => {
             let size = m.size;
             scan_known(
                 image,
@@ -163,16 +162,17 @@ fn scan_other(image: &[u8], state: &mut [i32], row: &[i32]) -> Scanned
 }
 
 // What the check of the image answers; where it is sound and has no timers, this refusal.
-fn after_check(image: &[u8], state: &mut [i32], row: &[i32], number: u8) -> Scanned
+fn after_check(image: &[u8], state: &mut [i32], row: &[i32], first: Refusal) -> Scanned
+    requires { place_of first ≤ image_limit }
     ensures state_after { (check_of image.now ≡ accepted tt → has_timer (limits_of image.now) ≡ false
-        → refused_scan number 0 0 state.old ≡ scan_of image.now state.old row.now)
+        → refused_scan (number_of first) (place_of first) 0 state.old ≡ scan_of image.now state.old row.now)
         → after_scan result state.new ≡ scan_of image.now state.old row.now }
     ensures scanned_within { ScannedWithin image_limit result }
 {
     match checker::survey(image) {
-        Surveyed::Refused(broken, place) => Scanned::Refused(broken, place, 0),
-        Surveyed::Plain => Scanned::Refused(number, 0, 0),
-        Surveyed::Timed => scan_other(image, state, row),
+        Err(broken) => refused(broken),
+        Ok(Surveyed::Plain) => refused(first),
+        Ok(Surveyed::Timed) => scan_other(image, state, row),
     }
 }
 
@@ -200,7 +200,7 @@ fn scan_code(
             Scanned::Done(n)
         }
         Ended::Refused(number, n) => Scanned::Refused(number, 0, n),
-        Ended::Broken(at) => Scanned::Refused(limits::BROKEN_IMAGE, place + at, 0),
+        Ended::Broken(at) => refused(Refusal::BrokenImage(place + at)),
         Ended::Timed => scan_other(image, state, row),
     }
 }
@@ -221,10 +221,10 @@ fn scan_values(
     ensures scanned_within { ScannedWithin image_limit result }
 {
     if !lists::all_in_range(low, high, state) {
-        return after_check(image, state, row, limits::STATE_OUT_OF_RANGE);
+        return after_check(image, state, row, Refusal::StateOutOfRange);
     }
     if !lists::all_in_range(low, high, row) {
-        return after_check(image, state, row, limits::INPUT_OUT_OF_RANGE);
+        return after_check(image, state, row, Refusal::InputOutOfRange);
     }
     scan_code(image, place, state, row, low, high, copy)
 }
@@ -243,16 +243,16 @@ fn scan_in(
     ensures scanned_within { ScannedWithin image_limit result }
 {
     if limits::IMAGE_LIMIT < image.len() {
-        return Scanned::Refused(limits::TOO_LONG, 0, 0);
+        return refused(Refusal::TooLong);
     }
     match bytecode::header(image, low, high, work) {
-        Headed::Broken(place) => Scanned::Refused(limits::BROKEN_IMAGE, place, 0),
+        Headed::Broken(place) => refused(Refusal::BrokenImage(place)),
         Headed::Header(inputs, names, place) => {
             if state.len() != names {
-                return after_check(image, state, row, limits::WRONG_LENGTH);
+                return after_check(image, state, row, Refusal::WrongLength);
             }
             if row.len() != inputs {
-                return after_check(image, state, row, limits::WRONG_LENGTH);
+                return after_check(image, state, row, Refusal::WrongLength);
             }
             scan_values(
                 image,
@@ -267,25 +267,15 @@ fn scan_in(
     }
 }
 
-// Small arrays for few names: they are cleared at each scan.
-fn scan_short(image: &[u8], state: &mut [i32], row: &[i32]) -> Scanned
-    requires { length state.old ≤ 8 }
+// With arrays for N names, which are cleared at each scan.
+fn scan_sized<const N: usize>(image: &[u8], state: &mut [i32], row: &[i32]) -> Scanned
+    requires { (N ≤ name_limit) × (length state.old ≤ name_limit → length state.old ≤ N) }
     ensures state_after { after_scan result state.new ≡ scan_of image.now state.old row.now }
     ensures scanned_within { ScannedWithin image_limit result }
 {
-    let mut low = [0i32; 8];
-    let mut high = [0i32; 8];
-    let mut work = [0i32; 8];
-    scan_in(image, state, row, &mut low, &mut high, &mut work)
-}
-
-fn scan_any(image: &[u8], state: &mut [i32], row: &[i32]) -> Scanned
-    ensures state_after { after_scan result state.new ≡ scan_of image.now state.old row.now }
-    ensures scanned_within { ScannedWithin image_limit result }
-{
-    let mut low = [0i32; limits::NAME_LIMIT];
-    let mut high = [0i32; limits::NAME_LIMIT];
-    let mut work = [0i32; limits::NAME_LIMIT];
+    let mut low = [0i32; N];
+    let mut high = [0i32; N];
+    let mut work = [0i32; N];
     scan_in(image, state, row, &mut low, &mut high, &mut work)
 }
 
@@ -295,9 +285,9 @@ pub fn scan(image: &[u8], state: &mut [i32], row: &[i32]) -> Scanned
     ensures scanned_within { ScannedWithin image_limit result }
 {
     if state.len() <= 8 {
-        return scan_short(image, state, row);
+        return scan_sized::<8>(image, state, row);
     }
-    scan_any(image, state, row)
+    scan_sized::<{ limits::NAME_LIMIT }>(image, state, row)
 }
 
 // Zeros from a place on, as many as a state has elapsed times at most.
@@ -310,30 +300,29 @@ fn clear(state: &mut [i32], from: usize)
 }
 
 // 9, 11 and 12, then the declared starts, and elapsed times of 0; what was measured of the image is handed on. A start needs neither lows nor highs.
-pub fn start_shape(image: &[u8], state: &mut [i32], low: &mut [i32], high: &mut [i32]) -> Shaped
+pub fn start_shape(
+    image: &[u8],
+    state: &mut [i32],
+    low: &mut [i32],
+    high: &mut [i32],
+) -> Result<Measured, Refusal>
     ensures { StartedFor image.now state.old low.old high.old low.new high.new state.new result }
 {
-    let shaped = before::shape_for(image, state.len(), low, high);
-    let Shaped::Shape(m) = shaped else {
-        return shaped;
-    };
+    let m = before::shape_for(image, state.len(), low, high)?;
     let mut lows = [0i32; 1];
     let mut highs = [0i32; 1];
     bytecode::header(image, &mut lows, &mut highs, state);
     clear(state, m.names);
-    shaped
+    Ok(m)
 }
 
 // The declared starts, after 9, 11 and 12. A refusal leaves the state as found.
-pub fn start(image: &[u8], state: &mut [i32]) -> Started
+pub fn start(image: &[u8], state: &mut [i32]) -> Result<(), Refusal>
     ensures state_after { after_start result state.new ≡ start_of image.now state.old }
     ensures started_within { StartedWithin image_limit result }
 {
     let mut low = [0i32; 1];
     let mut high = [0i32; 1];
-    let shaped = start_shape(image, state, &mut low, &mut high);
-    match shaped {
-        Shaped::Refused(number, place) => Started::Refused(number, place),
-        Shaped::Shape(_) => Started::Done,
-    }
+    start_shape(image, state, &mut low, &mut high)?;
+    Ok(())
 }

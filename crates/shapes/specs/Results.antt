@@ -1,15 +1,15 @@
--- What the answer of `shape` stands for. Document 01, "Who can cause which refusal"; document 02, A.7. Assumes nothing.
-use Rattle.std.specs.Prelude.{ℕ, ◌^◌, ◌≤◌, ◌<◌, ◌≡◌, List, ltb, ℤ, length}
+-- What `shape` measures. Document 01, "Who can cause which refusal"; document 02, A.7. Assumes nothing.
+use Rattle.std.specs.Prelude.{ℕ, ◌^◌, ◌≤◌, ◌<◌, ◌≡◌, List, ltb, ℤ, length, Result, Ok, Err}
 use Rattle.std.proofs.lemmas.List.Edits.{sets}
 use Rattle.limits.specs.Limits.{name_limit, image_limit}
 use Rattle.limits.specs.Answer.{accepted, refused}
+use Rattle.limits.specs.Refusals.{number_of, place_of}
+use Rattle.limits.specs.declared.Refusal.{Refusal}
 use Rattle.arith.specs.Inner.Flags.{flags_of}
 use Rattle.semantics.specs.Shape.{timers_of, has_timer, cells, state_length}
 use Rattle.bytecode.specs.Check.{check_of}
 use Rattle.bytecode.specs.Parts.{header_of, lows, highs, limits_of, shape_in}
 use Rattle.shapes.specs.declared.Measured.{Measured}
-use Rattle.shapes.specs.declared.Shaped.{Shaped}
-use Rattle.shapes.specs.declared.Shaped.TheVariants.{Shape, Refused}
 
 -- The measures of a sound image; the range of each number of its states, stored at the front of the memory lent for lows and highs, as far as there is room.
 pub record Measures (image : List ℕ) (low₀ high₀ low high : List ℤ) (m : Measured) : Type 0 where
@@ -31,9 +31,9 @@ pub record Measures (image : List ℕ) (low₀ high₀ low high : List ℤ) (m :
   pub lower : low ≡ sets low₀ 0 (lows (cells (shape_in image)))
   pub upper : high ≡ sets high₀ 0 (highs (cells (shape_in image)))
 
-abbrev pub ShapedAs : List ℕ → List ℤ → List ℤ → List ℤ → List ℤ → Shaped → Type 0
-ShapedAs image low₀ high₀ low high (Shape m) = Measures image low₀ high₀ low high m
-ShapedAs image low₀ high₀ low high (Refused number place) = (check_of image ≡ refused number place) × (place ≤ image_limit)
+abbrev pub ShapedAs : List ℕ → List ℤ → List ℤ → List ℤ → List ℤ → Result Measured Refusal → Type 0
+ShapedAs image low₀ high₀ low high (Ok m) = Measures image low₀ high₀ low high m
+ShapedAs image low₀ high₀ low high (Err e) = (check_of image ≡ refused (number_of e) (place_of e)) × (place_of e ≤ image_limit)
 
-pub record ShapedBy (image : List ℕ) (low₀ high₀ low high : List ℤ) (r : Shaped) : Type 0 where
+pub record ShapedBy (image : List ℕ) (low₀ high₀ low high : List ℤ) (r : Result Measured Refusal) : Type 0 where
   pub so : ShapedAs image low₀ high₀ low high r

@@ -12,6 +12,7 @@ ghost use Rattle.shapes.specs.Inner.Times.{PlacedOne, TimesStand};
 
 use arith::bits;
 use checker::Surveyed;
+use limits::Refusal;
 
 // The counts of inputs and of names, how many numbers a state has, which names are timers as bits (the lowest that of id 0), and the place where the code begins.
 #[derive(Clone, Copy)]
@@ -21,13 +22,6 @@ pub struct Measured {
     pub size: usize,
     pub timers: u64,
     pub place: usize,
-}
-
-// What was measured of a sound image; or refused, as check does.
-#[derive(Clone, Copy)]
-pub enum Shaped {
-    Shape(Measured),
-    Refused(u8, usize),
 }
 
 // A count, where there is room for it. `get_mut` promises nothing of the elements after a write through it.
@@ -88,16 +82,21 @@ fn measure_times(code: &[u8], table: &mut [u64], low: &mut [i32], high: &mut [i3
     place_times(table, low, high)
 }
 
-fn shape_times(image: &[u8], low: &mut [i32], high: &mut [i32], table: &mut [u64]) -> Shaped
+fn shape_times(
+    image: &[u8],
+    low: &mut [i32],
+    high: &mut [i32],
+    table: &mut [u64],
+) -> Result<Measured, Refusal>
     requires { (check_of image.now ≡ accepted tt) × (table.old ≡ replicate name_limit 0) }
     ensures { ShapedBy image.now low.old high.old low.new high.new result }
 {
     let mut start = [0i32; 1];
     match bytecode::header(image, low, high, &mut start) {
-        bytecode::Headed::Broken(place) => Shaped::Refused(limits::BROKEN_IMAGE, place),
+        bytecode::Headed::Broken(place) => Err(Refusal::BrokenImage(place)),
         bytecode::Headed::Header(inputs, names, place) => {
             let t = measure_times(&image[place..], &mut table[..names], low, high);
-            Shaped::Shape(Measured {
+            Ok(Measured {
                 inputs,
                 names,
                 size: t.size,
@@ -109,7 +108,7 @@ fn shape_times(image: &[u8], low: &mut [i32], high: &mut [i32], table: &mut [u64
 }
 
 // Only an image with a timer pays for the table.
-fn shape_timed(image: &[u8], low: &mut [i32], high: &mut [i32]) -> Shaped
+fn shape_timed(image: &[u8], low: &mut [i32], high: &mut [i32]) -> Result<Measured, Refusal>
     requires { check_of image.now ≡ accepted tt }
     ensures { ShapedBy image.now low.old high.old low.new high.new result }
 {
@@ -118,14 +117,14 @@ fn shape_timed(image: &[u8], low: &mut [i32], high: &mut [i32]) -> Shaped
 }
 
 // Without timers a state has a number for each name.
-fn shape_plain(image: &[u8], low: &mut [i32], high: &mut [i32]) -> Shaped
+fn shape_plain(image: &[u8], low: &mut [i32], high: &mut [i32]) -> Result<Measured, Refusal>
     requires { (check_of image.now ≡ accepted tt) × (has_timer (limits_of image.now) ≡ false) }
     ensures { ShapedBy image.now low.old high.old low.new high.new result }
 {
     let mut start = [0i32; 1];
     match bytecode::header(image, low, high, &mut start) {
-        bytecode::Headed::Broken(place) => Shaped::Refused(limits::BROKEN_IMAGE, place),
-        bytecode::Headed::Header(inputs, names, place) => Shaped::Shape(Measured {
+        bytecode::Headed::Broken(place) => Err(Refusal::BrokenImage(place)),
+        bytecode::Headed::Header(inputs, names, place) => Ok(Measured {
             inputs,
             names,
             size: names,
@@ -136,12 +135,11 @@ fn shape_plain(image: &[u8], low: &mut [i32], high: &mut [i32]) -> Shaped
 }
 
 // The check of an image, and the shape of its states: the low and high of each number are stored as far as there is room for them.
-pub fn shape(image: &[u8], low: &mut [i32], high: &mut [i32]) -> Shaped
+pub fn shape(image: &[u8], low: &mut [i32], high: &mut [i32]) -> Result<Measured, Refusal>
     ensures { ShapedBy image.now low.old high.old low.new high.new result }
 {
-    match checker::survey(image) {
+    match checker::survey(image)? {
         Surveyed::Plain => shape_plain(image, low, high),
         Surveyed::Timed => shape_timed(image, low, high),
-        Surveyed::Refused(number, place) => Shaped::Refused(number, place),
     }
 }

@@ -24,7 +24,8 @@ use Rattle.limits.specs.declared.Refusal.{Refusal}
 use Rattle.translate.specs.Services.{AfterTranslation, translation_of}
 use Rattle.translate.specs.Results.{after_translation}
 use Rattle.translate.specs.Inner.Descent.{AnalysedText}
-use Rattle.scan.specs.declared.Started.{Started}
+use Rattle.std.specs.Prelude.{Result}
+use Rattle.limits.specs.declared.Refusal.{Refusal}
 use Rattle.scan.specs.Services.{AfterStart, start_of}
 use Rattle.scan.specs.Results.{after_start}
 use Rattle.correctness.proofs.Correct.{start_translated}
@@ -118,7 +119,7 @@ module _ {text starts ends : List ℕ} {size names : ℕ} (s : State) (a : Accep
       let l = parse_short text p a.place a.parsed in
       omega (arith, a.sized)
 
-  pub start_is : (image : List ℕ) → image ≡ image_of p → (r : Started) {t : State} → after_start r t ≡ start_of image s → t ≡ starts_of p
+  pub start_is : (image : List ℕ) → image ≡ image_of p → (r : Result (Unit {0}) Refusal) {t : State} → after_start r t ≡ start_of image s → t ≡ starts_of p
   start_is image i r e =
       let t = parse_translatable text p a.place a.parsed in
       ap {A = AfterStart} (λ x. x.state) (e ∙ ap (λ (x : List ℕ). start_of x s) i ∙ start_translated p t s a.states)

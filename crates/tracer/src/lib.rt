@@ -62,7 +62,8 @@ fn begin_trace(
 {
     let _ = translate::translate(text, image);
     let at = trace_text::print::put_head(out, 0, text, starts, ends, names);
-    scan::start(&image[..size], state);
+    // no refusal: the image of an accepted text, and a state of its length
+    let _ = scan::start(&image[..size], state);
     trace_text::print::put_row(out, at, 0, &state[..names], 0)
 }
 

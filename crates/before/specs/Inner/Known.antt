@@ -1,7 +1,9 @@
 -- The tests before the code as the running code works them: auxiliary definitions for proofs. Assumes nothing.
-use Rattle.std.specs.Prelude.{ℕ, ◌^◌, ◌≤◌, ◌<◌, ◌≡◌, List, eqb, ℤ, length, take}
+use Rattle.std.specs.Prelude.{ℕ, ◌^◌, ◌≤◌, ◌<◌, ◌≡◌, List, eqb, ℤ, length, take, Result, Ok, Err}
 use Rattle.limits.specs.Limits.{image_limit, state_limit, time_limit, wrong_length, state_out_of_range, input_out_of_range}
 use Rattle.limits.specs.Answer.{Answer, accepted, refused}
+use Rattle.limits.specs.Refusals.{number_of, place_of}
+use Rattle.limits.specs.declared.Refusal.{Refusal}
 use Rattle.arith.specs.Inner.Flags.{flags_of}
 use Rattle.semantics.specs.Program.{Range}
 use Rattle.semantics.specs.Formula.{State}
@@ -10,27 +12,20 @@ use Rattle.semantics.specs.ReferenceScan.{with_inputs}
 use Rattle.bytecode.specs.Parts.{header_of, shape_in, lows, highs}
 use Rattle.bytecode.specs.Check.{check_of}
 use Rattle.shapes.specs.declared.Measured.{Measured}
-use Rattle.shapes.specs.declared.Shaped.{Shaped}
-use Rattle.shapes.specs.declared.Shaped.TheVariants as M
 use Rattle.shapes.specs.Results.{Measures}
 use Rattle.machine.specs.declared.Timing.{Timing}
 use Rattle.machine.specs.Inner.Memory.{RangesIn, TimingIn}
-use Rattle.before.specs.declared.Before.{Before}
-use Rattle.before.specs.declared.Before.TheVariants as T
+use Rattle.before.specs.declared.Code.{Code}
 use Rattle.before.specs.Before.{tested_before}
-
-abbrev pub before_answer : Before → Answer (Unit {0})
-before_answer (T.Code place timing) = accepted tt
-before_answer (T.Refused number place) = refused number place
 
 -- 18, then 13 of the inputs
 abbrev pub in_ranges : List Range → State → List ℤ → Answer (Unit {0})
 in_ranges ns s inputs = tested_before (all_within ns s) state_out_of_range (tested_before (all_within ns inputs) input_out_of_range (accepted tt))
 
 -- the copy holds the inputs, and the rest is handed on
-abbrev pub CopiedBy : ℕ → Timing → State → List ℤ → List ℤ → Before → Type 0
-CopiedBy at k s inputs work (T.Code place timing) = (place ≡ at) × (timing ≡ k) × (work ≡ with_inputs s inputs)
-CopiedBy at k s inputs work (T.Refused number place) = place ≡ 0
+abbrev pub CopiedBy : ℕ → Timing → State → List ℤ → List ℤ → Result Code Refusal → Type 0
+CopiedBy at k s inputs work (Ok c) = (c.place ≡ at) × (c.timing ≡ k) × (work ≡ with_inputs s inputs)
+CopiedBy at k s inputs work (Err e) = place_of e ≡ 0
 
 -- ---- an image known to be sound
 
@@ -58,9 +53,9 @@ pub record Prepared (k : Shape) (m : Measured) (s : State) (row work : List ℤ)
   pub timed : TimingIn (setting_of k row) timing
   pub copied : work ≡ with_inputs s (take k.inputs row)
 
-abbrev pub PreparedBy : Shape → Measured → State → List ℤ → List ℤ → Before → Type 0
-PreparedBy k m s row work (T.Code place timing) = (place ≡ m.place) × Prepared k m s row work timing
-PreparedBy k m s row work (T.Refused number place) = place ≡ 0
+abbrev pub PreparedBy : Shape → Measured → State → List ℤ → List ℤ → Result Code Refusal → Type 0
+PreparedBy k m s row work (Ok c) = (c.place ≡ m.place) × Prepared k m s row work c.timing
+PreparedBy k m s row work (Err e) = place_of e ≡ 0
 
 -- ---- a state of the image's length
 
@@ -70,9 +65,9 @@ tested_length (refused number place) k n = refused number place
 tested_length (accepted u) k n = tested_before (eqb n (state_length k)) wrong_length (accepted tt)
 
 -- what was measured of an image whose states have so many numbers
-abbrev pub ShapedFor : List ℕ → ℕ → List ℤ → List ℤ → List ℤ → List ℤ → Shaped → Type 0
-ShapedFor image n low₀ high₀ low high (M.Shape m) = Measures image low₀ high₀ low high m × (n ≡ m.size)
-ShapedFor image n low₀ high₀ low high (M.Refused number place) = (refused number place ≡ tested_length (check_of image) (shape_in image) n) × (place ≤ image_limit)
+abbrev pub ShapedFor : List ℕ → ℕ → List ℤ → List ℤ → List ℤ → List ℤ → Result Measured Refusal → Type 0
+ShapedFor image n low₀ high₀ low high (Ok m) = Measures image low₀ high₀ low high m × (n ≡ m.size)
+ShapedFor image n low₀ high₀ low high (Err e) = (refused (number_of e) (place_of e) ≡ tested_length (check_of image) (shape_in image) n) × (place_of e ≤ image_limit)
 
 -- an image known to be sound, what is known of its shape, and a state of its length
 pub record KnownImage (image : List ℕ) (m : Measured) (state low high : List ℤ) : Type 0 where
@@ -106,6 +101,6 @@ pub record Begun (image : List ℕ) (s : State) (row : List ℤ) (low high work 
   pub short : timing.millis ≤ time_limit
 
 -- of a refused one, how large its place is
-abbrev pub BegunBy : List ℕ → State → List ℤ → List ℤ → List ℤ → List ℤ → Before → Type 0
-BegunBy image s row low high work (T.Code place timing) = Begun image s row low high work place timing
-BegunBy image s row low high work (T.Refused number place) = place ≤ image_limit
+abbrev pub BegunBy : List ℕ → State → List ℤ → List ℤ → List ℤ → List ℤ → Result Code Refusal → Type 0
+BegunBy image s row low high work (Ok c) = Begun image s row low high work c.place c.timing
+BegunBy image s row low high work (Err e) = place_of e ≤ image_limit

@@ -1,7 +1,9 @@
 -- The parts of a scan as the running code works them: auxiliary definitions for proofs. Assumes nothing.
-use Rattle.std.specs.Prelude.{◌≡◌, false, List, [], ℕ, ◌≤◌, ℤ, length}
+use Rattle.std.specs.Prelude.{◌≡◌, false, List, [], ℕ, ◌≤◌, ℤ, length, Result, Ok, Err}
 use Rattle.limits.specs.Limits.{name_limit, image_limit}
 use Rattle.limits.specs.Answer.{Answer, accepted, refused}
+use Rattle.limits.specs.Refusals.{place_of}
+use Rattle.limits.specs.declared.Refusal.{Refusal}
 use Rattle.arith.specs.Inner.Flags.{flags_of}
 use Rattle.semantics.specs.Program.{Range}
 use Rattle.semantics.specs.Formula.{State}
@@ -11,10 +13,8 @@ use Rattle.bytecode.specs.Check.{check_header}
 use Rattle.bytecode.specs.Parts.{header_of, lows, highs}
 use Rattle.machine.specs.Step.{machine}
 use Rattle.machine.specs.Runs.{Ran, run}
-use Rattle.shapes.specs.declared.Shaped.{Shaped}
-use Rattle.shapes.specs.declared.Shaped.TheVariants as M
+use Rattle.shapes.specs.declared.Measured.{Measured}
 use Rattle.shapes.specs.Results.{Measures}
-use Rattle.scan.specs.declared.Started.TheVariants as S
 use Rattle.scan.specs.Services.{start_of, AfterScan, refused_scan, finished}
 use Rattle.scan.specs.Results.{after_start}
 
@@ -55,6 +55,6 @@ pub record KnownHeader (image : List ℕ) (place inputs names : ℕ) (low high :
 -- ---- start
 
 -- the declared starts, and what was measured of the image; or refused, as start does
-abbrev pub StartedFor : List ℕ → State → List ℤ → List ℤ → List ℤ → List ℤ → State → Shaped → Type 0
-StartedFor image found low₀ high₀ low high left (M.Shape m) = Measures image low₀ high₀ low high m × (length found ≡ m.size) × (after_start S.Done left ≡ start_of image found)
-StartedFor image found low₀ high₀ low high left (M.Refused number place) = (after_start (S.Refused number place) left ≡ start_of image found) × (place ≤ image_limit)
+abbrev pub StartedFor : List ℕ → State → List ℤ → List ℤ → List ℤ → List ℤ → State → Result Measured Refusal → Type 0
+StartedFor image found low₀ high₀ low high left (Ok m) = Measures image low₀ high₀ low high m × (length found ≡ m.size) × (after_start (Ok tt) left ≡ start_of image found)
+StartedFor image found low₀ high₀ low high left (Err e) = (after_start (Err e) left ≡ start_of image found) × (place_of e ≤ image_limit)
