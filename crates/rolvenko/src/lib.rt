@@ -1,7 +1,7 @@
 // The services as C functions. include/rolvenko.h declares them.
 #![tactic(auto)]
 
-ghost use Rattle.std.specs.Prelude.{◌≡◌, ◌^◌, ◌<◌, IfErr};
+ghost use Rattle.std.specs.Prelude.{◌≡◌, ◌^◌, ◌<◌, IfErr, MatchResult};
 ghost use Rattle.limits.specs.Refusals.{number_of, place_of, stands_for};
 ghost use Rattle.bytecode.specs.Check.{check_of};
 ghost use Rattle.scan.specs.Services.{start_of, scan_of};
@@ -40,15 +40,23 @@ fn pack_check(r: Result<(), Refusal>) -> u64
     }
 }
 
+// The answer of a service that tells a length or a count.
+fn pack_count(r: Result<usize, Refusal>) -> u64
+    requires { MatchResult r (λ n. n < 2 ^ 24) (λ e. place_of e < 2 ^ 32) }
+    ensures { result ≡ packed_translation (stands_for r) }
+{
+    match r {
+        Ok(n) => paused::pack(0, 0, n as u64),
+        Err(e) => pack_refusal(e),
+    }
+}
+
 #[unsafe(no_mangle)]
 pub extern "C" fn rolvenko_translate(text: &[u8], image: &mut [u8]) -> u64
     ensures value { result ≡ packed_translation (translation_of text.now image.old).answer }
     ensures image_after { image.new ≡ (translation_of text.now image.old).buffer }
 {
-    match translate::translate(text, image) {
-        Ok(length) => paused::pack(0, 0, length as u64),
-        Err(refusal) => paused::pack(refusal.number(), refusal.place(), 0),
-    }
+    pack_count(translate::translate(text, image))
 }
 
 #[unsafe(no_mangle)]
@@ -56,10 +64,7 @@ pub extern "C" fn rolvenko_structured_text(text: &[u8], out: &mut [u8]) -> u64
     ensures value { result ≡ packed_translation (structured_text_of text.now out.old).answer }
     ensures out_after { out.new ≡ (structured_text_of text.now out.old).buffer }
 {
-    match structured_text::structured_text(text, out) {
-        Ok(length) => paused::pack(0, 0, length as u64),
-        Err(refusal) => paused::pack(refusal.number(), refusal.place(), 0),
-    }
+    pack_count(structured_text::structured_text(text, out))
 }
 
 #[unsafe(no_mangle)]
@@ -121,10 +126,7 @@ pub extern "C" fn rolvenko_clock(text: &[u8], table: &[i64], utc: i64, row: &mut
     ensures value { result ≡ packed_check (fill_of text.now table.now utc row.old).answer }
     ensures row_after { row.new ≡ (fill_of text.now table.now utc row.old).row }
 {
-    match clock::fill(text, table, utc, row) {
-        Ok(()) => 0,
-        Err(refusal) => paused::pack(refusal.number(), refusal.place(), 0),
-    }
+    pack_check(clock::fill(text, table, utc, row))
 }
 
 #[unsafe(no_mangle)]
@@ -248,8 +250,5 @@ pub extern "C" fn rolvenko_watch(text: &[u8], trace: &[i32], report: &mut [i64])
     ensures value { result ≡ packed_translation (watch_of text.now trace.now report.old).answer }
     ensures report_after { report.new ≡ (watch_of text.now trace.now report.old).report }
 {
-    match watch::watch(text, trace, report) {
-        Ok(count) => paused::pack(0, 0, count as u64),
-        Err(refusal) => paused::pack(refusal.number(), refusal.place(), 0),
-    }
+    pack_count(watch::watch(text, trace, report))
 }
