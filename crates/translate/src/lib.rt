@@ -3,7 +3,7 @@
 #![tactic(auto)]
 
 ghost use Rattle.std.specs.Prelude.{◌≡◌, [], ◌++◌, ◌+◌, ◌*◌, ◌≤◌, ◌<◌, length, drop};
-ghost use Rattle.limits.specs.Limits.{text_limit};
+ghost use Rattle.limits.specs.Limits.{text_limit, image_room};
 ghost use Rattle.arith.specs.Inner.Flags.{flags_of};
 ghost use Rattle.grammar.specs.Parse.{program, parse};
 ghost use Rattle.expressions.specs.Inner.Scopes.{Declared};
@@ -207,55 +207,32 @@ fn translate_in(
     Ok(size)
 }
 
-// A text of at most 1,024 bytes, whose image has at most 1,538: clearing the scratch memory would else take longer than the descent.
-fn translate_short(text: &[u8], image: &mut [u8]) -> Result<usize, Refusal>
-    requires { length text.now ≤ 1024 }
+// With scratch memory for an image of ROOM bytes: clearing more would take longer than the descent of a short text.
+fn translate_with_room<const ROOM: usize>(text: &[u8], image: &mut [u8]) -> Result<usize, Refusal>
+    requires text_in_room { (length text.now ≤ text_limit) × (3 * length text.now + 4 ≤ 2 * ROOM) }
+    requires room_within { ROOM ≤ image_room }
     ensures image_after { after_translation result image.new ≡ translation_of text.now image.old }
     ensures translated_within { TranslatedWithin result }
 {
     let mut starts = [0usize; limits::NAME_LIMIT];
     let mut ends = [0usize; limits::NAME_LIMIT];
-    let mut scratch = [0u8; 1538];
+    let mut scratch = [0u8; ROOM];
     translate_in(text, image, &mut starts, &mut ends, &mut scratch)
 }
 
-// Likewise a text of at most 8,192 bytes, whose image has at most 12,290.
-fn translate_middle(text: &[u8], image: &mut [u8]) -> Result<usize, Refusal>
-    requires { length text.now ≤ 8192 }
-    ensures image_after { after_translation result image.new ≡ translation_of text.now image.old }
-    ensures translated_within { TranslatedWithin result }
-{
-    let mut starts = [0usize; limits::NAME_LIMIT];
-    let mut ends = [0usize; limits::NAME_LIMIT];
-    let mut scratch = [0u8; 12290];
-    translate_in(text, image, &mut starts, &mut ends, &mut scratch)
-}
-
-// No image of a text has over 49,154 bytes.
-fn translate_any(text: &[u8], image: &mut [u8]) -> Result<usize, Refusal>
-    requires { length text.now ≤ text_limit }
-    ensures image_after { after_translation result image.new ≡ translation_of text.now image.old }
-    ensures translated_within { TranslatedWithin result }
-{
-    let mut starts = [0usize; limits::NAME_LIMIT];
-    let mut ends = [0usize; limits::NAME_LIMIT];
-    let mut scratch = [0u8; limits::IMAGE_ROOM];
-    translate_in(text, image, &mut starts, &mut ends, &mut scratch)
-}
-
-// The image's length, or a refusal.
+// The image's length. No image of a text has over 49,154 bytes, of one of at most 1,024 bytes over 1,538, of one of at most 8,192 bytes over 12,290.
 pub fn translate(text: &[u8], image: &mut [u8]) -> Result<usize, Refusal>
     ensures image_after { after_translation result image.new ≡ translation_of text.now image.old }
     ensures translated_within { TranslatedWithin result }
 {
     if text.len() <= 1024 {
-        return translate_short(text, image);
+        return translate_with_room::<1538>(text, image);
     }
     if text.len() <= 8192 {
-        return translate_middle(text, image);
+        return translate_with_room::<12290>(text, image);
     }
     if text.len() <= limits::TEXT_LIMIT {
-        return translate_any(text, image);
+        return translate_with_room::<{ limits::IMAGE_ROOM }>(text, image);
     }
     Err(Refusal::TooLong)
 }
