@@ -1,13 +1,13 @@
 -- The product of the sizes, one by one. Assumes nothing.
 use mathlib.Core.Path.{◌≡◌, sym, ap, ◌∙◌}
-use mathlib.Core.List.{List, []}
+use mathlib.Core.List.{List}
 use Prim.Native.Nat.{ℕ, ◌+◌, ◌*◌, ◌≤◌, ◌<◌, min}
 use native.Mathlib.Nat.{mul-le-mul, mul_assoc}
 use native.Mathlib.Omega.{arith}
 use native.Mathlib.Numerals.{add-one}
 use lib.IntN.{ℤ, pos}
 use lib.ListN.{length, drop, get_or, get_or-map}
-use lib.Seq.{drop-cons, drop-length}
+use lib.Seq.{drop-cons}
 use Rattle.semantics.specs.Program.{Range, no_range}
 use Rattle.machine.specs.Inner.Memory.{RangesIn}
 use Rattle.machine.proofs.Changes.{names_length}
@@ -25,12 +25,6 @@ module _ (ns : List Range) (low high : List ℤ) (r : RangesIn ns low high) wher
     pub product_goes : i < length low → (q : ℕ) → q ≡ size_between (get_or low i (pos 0)) (get_or high i (pos 0)) → product_of_sizes ns ≡ p * q * product_of_sizes (drop (i + 1) ns)
     product_goes h q f = e ∙ rw (size_at i h, ← f) (sym (mul_assoc p q (product_of_sizes (drop (i + 1) ns))))
 
-    pub product_ends : length low ≤ i → i ≤ length low → product_of_sizes ns ≡ p
-    product_ends h k =
-        let n : i ≡ length ns = omega (arith, names_length ns low high r) in
-        let d : drop i ns ≡ [] = rw n (drop-length ns) in
-        e ∙ rw d (omega arith)
-
 pub capped_over : (ns ms : List Range) (p : ℕ) → product_of_sizes ns ≡ p * product_of_sizes ms → 65536 < p → 65537 ≡ min (product_of_sizes ns) 65537
 capped_over ns ms p e h =
     let k : p * 1 ≤ p * product_of_sizes ms = mul-le-mul (le p) (product_one ms) in
@@ -38,9 +32,6 @@ capped_over ns ms p e h =
   where
     le : (n : ℕ) → n ≤ n
     le n = omega arith
-
-pub product_fits : (p q : ℕ) → p ≤ 65536 → q ≤ 4294967296 → p * q ≤ 281474976710656
-product_fits p q h k = mul-le-mul h k
 
 pub size_least : (low high : ℤ) (q : ℕ) → q ≡ size_between low high → 1 ≤ q
 unfolding size_between

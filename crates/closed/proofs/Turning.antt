@@ -6,7 +6,7 @@ use Prim.Native.Nat.{ℕ, zero, suc, ◌<◌}
 use native.Mathlib.Omega.{arith}
 use lib.IntN.{ℤ, pos, ◌+ℤ◌}
 use lib.ListN.{length, take, drop, set, get_or, get_or-map}
-use lib.Seq.{take-length, drop-length, drop-cons, take-suc, set_at, get_or_at, length-take-le}
+use lib.Seq.{drop-cons, take-suc, set_at, get_or_at, length-take-le}
 use lib.Signed.{lt_z}
 use Rattle.semantics.specs.Program.{Range, no_range}
 use Rattle.machine.specs.Inner.Memory.{RangesIn}
@@ -22,16 +22,6 @@ pub record Turning (ns : List Range) (found values : List ℤ) (k : ℕ) : Type 
 turned_none : (ns : List Range) → turned ns [] ≡ turned_to true []
 turned_none [] = refl
 turned_none (n ∷ ns) = refl
-
-pub turning_begins : (ns : List Range) (found : List ℤ) → Turning ns found found (length found)
-turning_begins ns found = record { back = []; over = rw (drop-length found) (turned_none (drop (length found) ns)); so = rw (take-length found) (sym (append-nil' found)) }
-  where
-    append-nil' : (l : List ℤ) → l ++ [] ≡ l
-    append-nil' [] = refl
-    append-nil' (z ∷ l) = ap (λ t. z ∷ t) (append-nil' l)
-
-pub turning_ends : (ns : List Range) (found values : List ℤ) → Turning ns found values 0 → values ≡ next_of ns found
-turning_ends ns found values t = t.so ∙ sym (ap (λ (x : Turned). x.values) t.over)
 
 -- values before one that moves stay
 stays : (ns : List Range) (found back : List ℤ) (k : ℕ) → k < length ns → k < length found → turned (drop k ns) (drop k found) ≡ turned_to false back

@@ -21,7 +21,7 @@ fn size(low: i32, high: i32) -> usize
     if high < low {
         return 1;
     }
-    (high as i64 - low as i64) as usize + 1
+    high.abs_diff(low) as usize + 1
 }
 
 // The product of the sizes; one over the limit stands for every larger one, since no size is 0.
@@ -31,13 +31,11 @@ fn product_of_sizes(low: &[i32], high: &[i32]) -> usize
     ensures lower_bound { (1 ≤ result) × (result ≤ combination_limit + 1) }
 {
     let mut p: usize = 1;
-    let mut i = 0;
-    while i < low.len() {
-        p *= size(low[i], high[i]);
+    for (i, l) in low.iter().enumerate() {
+        p *= size(*l, high[i]);
         if limits::COMBINATION_LIMIT < p {
             return limits::COMBINATION_LIMIT + 1;
         }
-        i += 1;
     }
     p
 }
@@ -47,9 +45,7 @@ fn next(low: &[i32], high: &[i32], values: &mut [i32])
     requires { (length high.now ≡ length low.now) × (length values.old ≡ length low.now) }
     ensures { (ns : List Range) → RangesIn ns low.now high.now → values.new ≡ next_of ns values.old }
 {
-    let mut k = values.len();
-    while 0 < k {
-        k -= 1;
+    for k in (0..values.len()).rev() {
         if values[k] < high[k] {
             values[k] += 1;
             return;
@@ -94,10 +90,8 @@ fn nth(low: &[i32], high: &[i32], times: usize, values: &mut [i32])
     ensures { (ns : List Range) → RangesIn ns low.now high.now → times < product_of_sizes ns → IsNth ns times values.new }
 {
     lists::fill(values, low);
-    let mut i = 0;
-    while i < times {
+    for _ in 0..times {
         next(low, high, values);
-        i += 1;
     }
 }
 
@@ -134,20 +128,18 @@ fn walk(
     nth(low, high, i, state);
     nth(row_low, row_high, first % rows, row);
     let mut done = first;
-    'states: while done < end {
+    // No `for`: `done` goes on by a state's rows, of which the first and the last state may have fewer.
+    while done < end {
         let stop = lists::behind(i * rows, rows, end);
-        while done < stop {
+        for at in done..stop {
             if is_refused(code, low, high, state, row, work, vals) {
-                break 'states;
+                return Visited::Until(at);
             }
             next(row_low, row_high, row);
-            done += 1;
         }
         next(low, high, state);
+        done = stop;
         i += 1;
-    }
-    if done < end {
-        return Visited::Until(done);
     }
     Visited::Every
 }

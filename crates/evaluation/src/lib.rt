@@ -171,7 +171,7 @@ fn is_kept(a: Truth, b: Truth) -> bool
     }
 }
 
-// `G([c])`: the first place where the condition does not hold.
+// `G([c])`: the first place where the condition does not hold. By place: `chunks_exact` asks for states that are not empty.
 pub fn walk_alone(
     code: &[u8],
     trace: &[i32],
@@ -183,22 +183,21 @@ pub fn walk_alone(
     ensures { (c : Condition) → ConditionCode c names code.now
         → failed_at result ≡ first_failure (record { first = c; later = none }) (places_of (states_of places names trace.now)) }
 {
-    let mut n: usize = 0;
     let mut before: usize = 0;
     let mut at: usize = 0;
-    while n < places {
+    for n in 0..places {
         let t = evaluate_at(code, trace, names, before, at, vals);
         if !holds(t) {
             return Failed::At(n);
         }
         before = at;
         at += names;
-        n += 1;
     }
     Failed::Never
 }
 
-// `G([c] -> X([d]))`: the later place of the first pair that does not hold. The first condition's answer is carried.
+// `G([c] -> X([d]))`: the later place of the first pair that does not hold. The first condition's answer is carried, so that one loop for
+// both walks would test at each place which it is.
 pub fn walk_paired(
     first: &[u8],
     later: &[u8],
@@ -215,10 +214,9 @@ pub fn walk_paired(
         return Failed::Never;
     }
     let mut a = evaluate_at(first, trace, names, 0, 0, vals);
-    let mut n: usize = 1;
     let mut before: usize = 0;
     let mut at: usize = names;
-    while n < places {
+    for n in 1..places {
         let b = evaluate_at(later, trace, names, before, at, vals);
         if !is_kept(a, b) {
             return Failed::At(n);
@@ -226,7 +224,6 @@ pub fn walk_paired(
         a = evaluate_at(first, trace, names, before, at, vals);
         before = at;
         at += names;
-        n += 1;
     }
     Failed::Never
 }

@@ -28,17 +28,7 @@ fn put(memory: &mut [i32], i: usize, n: usize)
 fn same(a: &[i32], b: &[i32]) -> bool
     ensures { result ≡ same_values a.now b.now }
 {
-    if a.len() != b.len() {
-        return false;
-    }
-    let mut i = 0;
-    while i < a.len() {
-        if !arith::is_equal(a[i], b[i]) {
-            return false;
-        }
-        i += 1;
-    }
-    true
+    a == b
 }
 
 // A scan at the end of its code: 24, or the state is written and the scan is over.
