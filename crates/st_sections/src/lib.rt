@@ -15,11 +15,10 @@ ghost use Rattle.st_sections.specs.Inner.Lines.{declarations_of, line_for, with_
 fn signed_before(out: &mut [u8], to: usize, z: i32) -> usize
     ensures { Fronts (λ (l : List ℕ). decimal_of z ++ l) out.old out.new to result }
 {
+    let digits = st_writer::decimal_before(out, to, u64::from(z.unsigned_abs()));
     if 0 <= z {
-        return st_writer::decimal_before(out, to, z as u64);
+        return digits;
     }
-    let n = -1 - z;
-    let digits = st_writer::decimal_before(out, to, n as u64 + 1);
     st_writer::byte_before(out, digits, 45)
 }
 

@@ -16,7 +16,7 @@ pub fn put_byte(out: &mut [u8], at: usize, b: u8) -> usize
     out.len()
 }
 
-// The shortest decimal.
+// The shortest decimal. By hand: the library prints into memory of its own, from which the digits would have to be copied.
 fn put_unsigned_decimal(out: &mut [u8], at: usize, n: u64) -> usize
     ensures { Put out.old at (unsigned_decimal n) out.new result }
 {
@@ -30,12 +30,12 @@ fn put_unsigned_decimal(out: &mut [u8], at: usize, n: u64) -> usize
 fn put_decimal(out: &mut [u8], at: usize, z: i32) -> usize
     ensures { Put out.old at (decimal_of z) out.new result }
 {
+    let n = u64::from(z.unsigned_abs());
     if 0 <= z {
-        return put_unsigned_decimal(out, at, z as u64);
+        return put_unsigned_decimal(out, at, n);
     }
     let next = put_byte(out, at, 45);
-    let n = -1 - z;
-    put_unsigned_decimal(out, next, n as u64 + 1)
+    put_unsigned_decimal(out, next, n)
 }
 
 fn put_bytes(out: &mut [u8], at: usize, word: &[u8]) -> usize

@@ -71,6 +71,7 @@ pub fn watches(text: &[u8], starts: &[usize], ends: &[usize], names: Names, firs
     let mut start = first.start;
     let mut end = first.end;
     let mut count = 0;
+    // a `while`: the token behind a watch says whether another follows
     while kind == lexer::WATCH {
         if count == limits::WATCH_LIMIT {
             return Err(Refusal::TooManyWatches(start));
