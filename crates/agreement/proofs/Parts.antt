@@ -3,7 +3,6 @@ use mathlib.Core.Path.{◌≡◌, refl, sym, ap, ◌∙◌}
 use mathlib.Core.Bool.{true, false, cond}
 use mathlib.Core.List.{List, [], ◌∷◌}
 use Prim.Native.Nat.{ℕ, zero, suc, ◌+◌, ◌-◌, ◌≤◌, ◌<◌}
-use native.Mathlib.Nat.{sub-zero}
 use native.Mathlib.Numerals.{add-one}
 use native.Mathlib.Omega.{arith}
 use lib.Dec.{ltb}
@@ -149,9 +148,6 @@ module _ (text from to : List ℕ) (count : ℕ) (s : Spans text from to count) 
 
   answers : (at : ℕ) (r : Compared) → spans_from text (spans_in from to count) at ≡ r → Answers at r
   answers at r e cases h = sym (parts_spans text cases at ∙ ap (λ (l : List Span). spans_from text l at) h ∙ e)
-
-  pub comparing : (at : ℕ) → Comparing text from to count at 0 at
-  comparing at = record { in_count = omega arith; same = ap (λ (n : ℕ). spans_from text (spans_in from to n) at) (sym (sub-zero count)) }
 
   module _ (at i a : ℕ) (c : Comparing text from to count at i a) where
     pub compared : {r : Compared} → r ≡ agrees a → count ≤ i → Answers at r

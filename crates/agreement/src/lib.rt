@@ -20,6 +20,7 @@ fn compare_tokens(text: &[u8], from: usize, to: usize, at: usize) -> Step
 {
     let mut a = from;
     let mut b = at;
+    // a `while`: both places move on by a token's length, which is known when it is read
     while a < to {
         let token = lexer::token_at(text, a)?;
         let token2 = lexer::token_at(text, b)?;
@@ -109,9 +110,7 @@ pub fn compare_lists(text: &[u8], from: &[usize], to: &[usize], count: usize, at
 {
     let mut a = at;
     for i in 0..count {
-        let first = from[i];
-        let last = to[i];
-        let n = compare_part(text, first, last, a)?;
+        let n = compare_part(text, from[i], to[i], a)?;
         let m = compare_sign(text, separator(i + 1, count), n.at)?;
         a = m.at;
     }

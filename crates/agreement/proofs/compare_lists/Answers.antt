@@ -3,14 +3,8 @@ use mathlib.Core.Path.{ap}
 use Prim.Native.Nat.{◌+◌}
 use Rattle.limits.proofs.Exits.{handed_on}
 use Rattle.agreement.specs.Inner.Comparison.{compared_of}
-use Rattle.agreement.proofs.Parts.{comparing, compared, part_differs, separator_known, sign_differs, next_part}
+use Rattle.agreement.proofs.Parts.{compared, part_differs, separator_known, sign_differs, next_part}
 use Rattle.agreement.proofs.compare_lists.Goals as goal
-
-pub loop-i-init : goal.loop-i-init
-loop-i-init c = comparing _ _ _ _ c.requires.spans _
-
-pub compare_part-requires : goal.compare_part-requires
-compare_part-requires c = record { to_in_bounds = c.requires.spans.inside _ c.loop-i-test.true; tokens_in = c.requires.spans_read.each _ c.loop-i-test.true }
 
 pub returns-in_err-n : goal.returns-in_err-n
 returns-in_err-n c =

@@ -7,9 +7,8 @@ use Rattle.cases.proofs.Ways.{first_found_as}
 use Rattle.cases.proofs.Agreeing.{spans_read, agreed}
 use Rattle.cases.proofs.agreeing_list.Goals as goal
 
-pub compare_lists-compared-requires : goal.compare_lists-compared-requires
-compare_lists-compared-requires c =
-    let p = c.requires in record { spans = p.spans; spans_read = spans_read _ _ _ _ p.declared p.named _ _ _ p.spans p.list_kept }
+pub compare_lists-compared-requires-clause-spans_read : goal.compare_lists-compared-requires-clause-spans_read
+compare_lists-compared-requires-clause-spans_read c = let p = c.requires in spans_read _ _ _ _ p.declared p.named _ _ _ p.spans p.list_kept
 
 pub returns-in_default : goal.returns-in_default
 returns-in_default c =

@@ -30,17 +30,14 @@ put_byte-u-requires c =
     let rl = room_after c.requires.room (listed_grown _ few _ c.requires.room.within) l in
     omega arith
 
-pub whole_expression-requires : goal.whole_expression-requires
+pub whole_expression-requires-clause-room : goal.whole_expression-requires-clause-room
 unfolding is kind_number
-whole_expression-requires c =
+whole_expression-requires-clause-room c =
     let l = accepted_by c.listed.ensures c.in_ok-condition.was in
     let few = few_names _ c.requires.declared in
     let rl = room_after c.requires.room (listed_grown _ few _ c.requires.room.within) l in
     let p = found c.case_value_opening.ensures c.in_ok-a.was in
-    record {
-      declared = c.requires.declared;
-      room = room_phrase {u = c.put_byte-u.result} (case_value_opening _) (refl, (refl, (refl, tt))) rl p (omega (arith, c.put_byte-u.ensures.0));
-    }
+    room_phrase {u = c.put_byte-u.result} (case_value_opening _) (refl, (refl, (refl, tt))) rl p (omega (arith, c.put_byte-u.ensures.0))
 
 pub returns-in_err-value : goal.returns-in_err-value
 returns-in_err-value c =

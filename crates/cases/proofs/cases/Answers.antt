@@ -7,7 +7,7 @@ use Rattle.expressions.proofs.Scopes.{few_names}
 use Rattle.phrases.proofs.Laws.{same_kinds, other_kinds}
 use Rattle.phrases.proofs.Writing.{got, refused_part}
 use Rattle.cases.proofs.Listing.{found_token}
-use Rattle.cases.proofs.Casing.{casing_first, casing_fault, casing_other, casing_full, casing_room, casing_refused, casing_behind, casing_last, casing_more}
+use Rattle.cases.proofs.Casing.{casing_first, casing_fault, casing_other, casing_full, casing_refused, casing_behind, casing_last, casing_more}
 use Rattle.cases.proofs.cases.Goals as goal
 
 pub loop-token-init : goal.loop-token-init
@@ -32,12 +32,6 @@ returns-then-count-limit c =
     let f = found_token _ _ (c.token_at.ensures.value, c.token_at.ensures.placed_in) c.in_ok-token.was in
     let both = casing_full c.loop-token.invariant f (same_kinds _ 19 c.if-token-ne-OPEN_SQUARE.false) c.if-count-limit.true in
     record { writes = both.0; lists = both.1 }
-
-pub case-requires : goal.case-requires
-unfolding kind_of
-case-requires c =
-    let f = found_token _ _ (c.token_at.ensures.value, c.token_at.ensures.placed_in) c.in_ok-token.was in
-    record { declared = c.requires.declared; room = casing_room c.loop-token.invariant f (same_kinds _ 19 c.if-token-ne-OPEN_SQUARE.false); id_lt_name_limit = c.requires.id_lt_name_limit }
 
 pub returns-in_err-b : goal.returns-in_err-b
 unfolding kind_of
@@ -66,9 +60,6 @@ returns-then-after-ne-BAR c =
     let f2 = found_token _ _ (c.token_at-in-loop-token.ensures.value, c.token_at-in-loop-token.ensures.placed_in) c.in_ok-after.was in
     let both = casing_last c.loop-token.invariant f i c.if-count-limit.false g (few_names _ c.requires.declared) c.requires.id_lt_name_limit f2 c.reached.ensures (other_kinds _ _ f2.lies.known_kind (omega arith) c.if-after-ne-BAR.true) in
     record { writes = both.0; lists = both.1 }
-
-pub loop-token-smaller : goal.loop-token-smaller
-loop-token-smaller c = omega (arith, c.loop-token.invariant.few, c.if-count-limit.false)
 
 pub loop-token-preserved : goal.loop-token-preserved
 unfolding kind_of

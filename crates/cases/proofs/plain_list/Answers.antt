@@ -8,11 +8,8 @@ use Rattle.lexer.proofs.Tokens.{is_fault}
 use Rattle.expressions.proofs.Steps.{accepted_by, refused_by}
 use Rattle.expressions.proofs.Scopes.{few_names}
 use Rattle.phrases.proofs.Laws.{same_kinds, other_kinds}
-use Rattle.cases.proofs.Listing.{found_token, listing_first, listing_fault, listing_full, listing_other, listing_room, listing_refused, listing_last, listing_more}
+use Rattle.cases.proofs.Listing.{found_token, listing_fault, listing_full, listing_other, listing_refused, listing_last, listing_more}
 use Rattle.cases.proofs.plain_list.Goals as goal
-
-pub loop-bracket-init : goal.loop-bracket-init
-loop-bracket-init c = listing_first c.requires.room
 
 pub returns-in_err-bracket : goal.returns-in_err-bracket
 returns-in_err-bracket c =
@@ -30,11 +27,6 @@ unfolding kind_of
 returns-then-left-eq0 c =
     let f = found_token _ _ (c.token_at.ensures.value, c.token_at.ensures.placed_in) c.in_ok-bracket.was in
     listing_full c.loop-bracket.invariant f (same_kinds _ 19 c.if-bracket-ne-OPEN_SQUARE.false) c.if-left-eq0.true
-
-pub listed-requires : goal.listed-requires
-listed-requires c =
-    let f = found_token _ _ (c.token_at.ensures.value, c.token_at.ensures.placed_in) c.in_ok-bracket.was in
-    record { declared = c.requires.declared; room = listing_room c.loop-bracket.invariant f c.if-left-eq0.false }
 
 pub returns-in_err-behind : goal.returns-in_err-behind
 unfolding kind_of

@@ -30,10 +30,10 @@ returns-then-is_known c =
     let e = sym (c.find.ensures ∙ ap (id_of _) c.name-name.ensures) ∙ ap found_id c.in-Some.is in
     λ ts from. refuses refl (rule_second ts _ _ _ (sym c.is_over_long.ensures ∙ c.if-is_over_long.false) e (from _ (id_below _ c.requires.declared _ e) ∙ lt-leb _ _ c.if-first-id.false) (sym c.is_known.ensures ∙ c.if-is_known.true))
 
-pub formulas-requires : goal.formulas-requires
-formulas-requires c =
+pub formulas-requires-clause-id_lt_name_limit : goal.formulas-requires-clause-id_lt_name_limit
+formulas-requires-clause-id_lt_name_limit c =
     let e = sym (c.find.ensures ∙ ap (id_of _) c.name-name.ensures) ∙ ap found_id c.in-Some.is in
-    record { declared = c.requires.declared; room = c.requires.room; id_lt_name_limit = id_few _ c.requires.declared _ e; span_room = c.requires.span_room; named = c.requires.named }
+    id_few _ c.requires.declared _ e
 
 pub returns : goal.returns
 returns c =

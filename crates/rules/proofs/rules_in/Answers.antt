@@ -7,7 +7,7 @@ use Rattle.phrases.proofs.Laws.{same_kinds, other_kinds}
 use Rattle.phrases.proofs.Writing.{got, refused_part}
 use Rattle.cases.proofs.Listing.{found_token}
 use Rattle.rules.proofs.Putting.{timers_from_lem, few_bytes}
-use Rattle.rules.proofs.Ruling.{declared_as, ruling_first, ruling_fault, ruling_end, ruling_room, ruling_refused, ruling_declared, ruling_near, ruling_less, ruling_more}
+use Rattle.rules.proofs.Ruling.{declared_as, ruling_first, ruling_fault, ruling_end, ruling_refused, ruling_declared, ruling_near, ruling_less, ruling_more}
 use Rattle.rules.proofs.rules_in.Goals as goal
 
 pub loop-token-init : goal.loop-token-init
@@ -26,17 +26,6 @@ returns-then-token-ne-NAME c =
     let f = found_token _ _ (c.token_at.ensures.value, c.token_at.ensures.placed_in) c.in_ok-token.was in
     ruling_end c.loop-token.invariant d f (other_kinds _ _ f.lies.known_kind (omega arith) c.if-token-ne-NAME.true)
 
-pub rule-requires : goal.rule-requires
-rule-requires c =
-    let d = declared_as c.requires.declared c.loop-token.known in
-    let f = found_token _ _ (c.token_at.ensures.value, c.token_at.ensures.placed_in) c.in_ok-token.was in
-    record {
-      declared = d;
-      room = ruling_room c.loop-token.invariant d f;
-      span_room = record { in_from = omega (arith, c.requires.span_room.in_from); in_upto = omega (arith, c.requires.span_room.in_upto) };
-      named = c.requires.named;
-    }
-
 pub returns-in_err-b : goal.returns-in_err-b
 unfolding kind_of
 returns-in_err-b c =
@@ -54,17 +43,14 @@ ruled-more-requires c =
     let i = same_kinds _ 2 c.if-token-ne-NAME.false in
     ruling_declared c.loop-token.invariant d f i (got (c.rule.ensures _ (timers_from_lem _ _ _ _)) c.in_ok-b.was)
 
-pub timers_of-behind-requires : goal.timers_of-behind-requires
+pub timers_of-behind-requires-clause-count_le_name_limit : goal.timers_of-behind-requires-clause-count_le_name_limit
 unfolding kind_of
-timers_of-behind-requires c =
+timers_of-behind-requires-clause-count_le_name_limit c =
     let d = declared_as c.requires.declared c.loop-token.known in
     let f = found_token _ _ (c.token_at.ensures.value, c.token_at.ensures.placed_in) c.in_ok-token.was in
     let i = same_kinds _ 2 c.if-token-ne-NAME.false in
     let g = got (c.rule.ensures _ (timers_from_lem _ _ _ _)) c.in_ok-b.was in
-    record {
-      timer_tables = c.requires.timer_tables;
-      count_le_name_limit = (c.requires.declared.few, ruling_declared c.loop-token.invariant d f i g, ruling_near c.loop-token.invariant d f i g);
-    }
+    (c.requires.declared.few, ruling_declared c.loop-token.invariant d f i g, ruling_near c.loop-token.invariant d f i g)
 
 pub loop-token-smaller : goal.loop-token-smaller
 unfolding kind_of

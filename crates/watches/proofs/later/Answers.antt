@@ -15,11 +15,11 @@ use Rattle.watches.proofs.later.Goals as goal
 pub returns-in_err-a : goal.returns-in_err-a
 returns-in_err-a c = rw (handed_on c.from_residual.ensures c.in_err-a.was) (λ x. not_expected c.later_opening.ensures c.in_err-a.was (later_unopened _ x _))
 
-pub listed-requires : goal.listed-requires
+pub listed-requires-clause-room : goal.listed-requires-clause-room
 unfolding is kind_number
-listed-requires c =
+listed-requires-clause-room c =
     let p = found c.later_opening.ensures c.in_ok-a.was in
-    record { declared = c.requires.declared; room = room_phrase {u = c.args.to} later_opening (refl, (refl, (refl, tt))) c.requires.room p (omega arith) }
+    room_phrase {u = c.args.to} later_opening (refl, (refl, (refl, tt))) c.requires.room p (omega arith)
 
 pub returns-in_err-behind : goal.returns-in_err-behind
 returns-in_err-behind c =

@@ -18,25 +18,25 @@ use Rattle.watches.proofs.watch.Goals as goal
 pub returns-in_err-a : goal.returns-in_err-a
 returns-in_err-a c = rw (handed_on c.from_residual.ensures c.in_err-a.was) (not_expected c.watch_opening.ensures c.in_err-a.was (watch_unopened _ _))
 
-pub listed-requires : goal.listed-requires
+pub listed-requires-clause-room : goal.listed-requires-clause-room
 unfolding is kind_number
-listed-requires c =
+listed-requires-clause-room c =
     let p = found c.watch_opening.ensures c.in_ok-a.was in
-    record { declared = c.requires.declared; room = room_phrase {u = c.args.to} watch_opening (refl, (refl, (refl, (refl, tt)))) c.requires.room p (omega arith) }
+    room_phrase {u = c.args.to} watch_opening (refl, (refl, (refl, (refl, tt)))) c.requires.room p (omega arith)
 
 pub returns-in_err-behind : goal.returns-in_err-behind
 returns-in_err-behind c =
     let p = found c.watch_opening.ensures c.in_ok-a.was in
     rw (handed_on c.from_residual-in_err-behind.ensures c.in_err-behind.was) (not_read c.listed.ensures c.in_err-behind.was (first_refused _ _ p))
 
-pub later-requires : goal.later-requires
+pub later-requires-clause-room : goal.later-requires-clause-room
 unfolding is kind_number
-later-requires c =
+later-requires-clause-room c =
     let p = found c.watch_opening.ensures c.in_ok-a.was in
     let rp = room_phrase {u = c.args.to} watch_opening (refl, (refl, (refl, (refl, tt)))) c.requires.room p (omega arith) in
     let l = accepted_by c.listed.ensures c.in_ok-behind.was in
     let rl = room_after rp (listed_grown _ (few_names _ c.requires.declared) _ rp.within) l in
-    record { declared = c.requires.declared; room = room_next rl l.stands }
+    room_next rl l.stands
 
 pub returns-then-behind-eq-ARROW : goal.returns-then-behind-eq-ARROW
 unfolding kind_number

@@ -1,24 +1,20 @@
 -- `watches::watches` meets its contract. Assumes nothing.
-use native.Mathlib.Omega.{arith}
 use Rattle.limits.proofs.Exits.{handed_on}
 use Rattle.lexer.specs.Token.{kind_number}
 use Rattle.lexer.proofs.Tokens.{is_fault}
 use Rattle.expressions.proofs.Scopes.{few_names}
 use Rattle.phrases.proofs.Writing.{got, refused_part}
 use Rattle.cases.proofs.Listing.{found_token}
-use Rattle.watches.proofs.Reading.{reading_first, reading_end, reading_full, reading_room, reading_refused, reading_fault, reading_more}
+use Rattle.watches.proofs.Reading.{reading_end, reading_full, reading_room, reading_refused, reading_fault, reading_more}
 use Rattle.watches.proofs.watches.Goals as goal
-
-pub loop-kind-init : goal.loop-kind-init
-loop-kind-init c = reading_first _ c.args.first c.requires.room c.requires.stands_at
 
 pub returns-then-count-eq-WATCH_LIMIT : goal.returns-then-count-eq-WATCH_LIMIT
 unfolding kind_number
 returns-then-count-eq-WATCH_LIMIT c = reading_full c.loop-kind.invariant c.loop-kind-test.true c.if-count-eq-WATCH_LIMIT.true
 
-pub watch-requires : goal.watch-requires
+pub watch-requires-clause-room : goal.watch-requires-clause-room
 unfolding kind_number
-watch-requires c = record { declared = c.requires.declared; room = reading_room c.loop-kind.invariant c.loop-kind-test.true }
+watch-requires-clause-room c = reading_room c.loop-kind.invariant c.loop-kind-test.true
 
 pub returns-in_err-b : goal.returns-in_err-b
 unfolding kind_number
@@ -33,12 +29,6 @@ returns-in_err-next c =
     let f = is_fault _ _ _ (c.token_at.ensures.value, c.token_at.ensures.placed_in) _ c.in_err-next.was in
     rw (handed_on c.from_residual-in_err-next.ensures c.in_err-next.was)
     (reading_fault c.loop-kind.invariant c.loop-kind-test.true c.if-count-eq-WATCH_LIMIT.false g.is c.in_err-next.was f)
-
-pub overflow_add-count : goal.overflow_add-count
-overflow_add-count c = record { fits = omega (arith, c.loop-kind.invariant.few) }
-
-pub loop-kind-smaller : goal.loop-kind-smaller
-loop-kind-smaller c = omega (arith, c.loop-kind.invariant.few, c.if-count-eq-WATCH_LIMIT.false)
 
 pub loop-kind-preserved : goal.loop-kind-preserved
 unfolding kind_number

@@ -10,22 +10,17 @@ use Rattle.expressions.proofs.Scopes.{few_names}
 use Rattle.phrases.proofs.Writing.{got, writes, not_expected, not_part, found}
 use Rattle.cases.proofs.Parts.{placed}
 use Rattle.cases.proofs.Ways.{room_phrase, place_refused}
-use Rattle.rules.proofs.Ways.{change_unopened, cases_refused, no_change_unopened, list_refused, change_unclosed, change_accepted, level_code, change_bytes, change_length, room_cases, room_list, told_spans, told_listed, told_kept}
+use Rattle.rules.proofs.Ways.{change_unopened, cases_refused, no_change_unopened, list_refused, change_unclosed, change_accepted, level_code, change_bytes, change_length, room_cases, room_list, told_listed, told_kept}
 use Rattle.rules.proofs.formulas.change.Goals as goal
 
 pub returns-in_err-a : goal.returns-in_err-a
 returns-in_err-a c = rw (handed_on c.from_residual.ensures c.in_err-a.was) (not_expected c.change_opening.ensures c.in_err-a.was (change_unopened _ _ _ _))
 
-pub cases-requires : goal.cases-requires
+pub cases-requires-clause-room : goal.cases-requires-clause-room
 unfolding is kind_number
-cases-requires c =
+cases-requires-clause-room c =
     let p = found c.change_opening.ensures c.in_ok-a.was in
-    record {
-      declared = c.requires.declared;
-      room = room_phrase {u = c.args.to} (change_opening _) (refl, (refl, (refl, (refl, tt)))) c.requires.room p (omega arith);
-      id_lt_name_limit = c.requires.id_lt_name_limit;
-      limit_in_bounds = (c.requires.span_room.in_from, c.requires.span_room.in_upto, omega arith);
-    }
+    room_phrase {u = c.args.to} (change_opening _) (refl, (refl, (refl, (refl, tt)))) c.requires.room p (omega arith)
 
 pub returns-in_err-b : goal.returns-in_err-b
 returns-in_err-b c =
@@ -38,22 +33,21 @@ returns-in_err-d c =
     let g = got c.cases.ensures.writes c.in_ok-b.was in
     rw (handed_on c.from_residual-in_err-d.ensures c.in_err-d.was) (not_expected c.no_change_opening.ensures c.in_err-d.was (no_change_unopened _ _ _ _ p g.is))
 
-pub agreeing_list-requires : goal.agreeing_list-requires
+pub agreeing_list-requires-clause-room : goal.agreeing_list-requires-clause-room
 unfolding is kind_number
-agreeing_list-requires c =
+agreeing_list-requires-clause-room c =
     let p = found c.change_opening.ensures c.in_ok-a.was in
     let r = room_phrase {u = c.args.to} (change_opening _) (refl, (refl, (refl, (refl, tt)))) c.requires.room p (omega arith) in
     let g = got c.cases.ensures.writes c.in_ok-b.was in
     let q = found c.no_change_opening.ensures c.in_ok-d.was in
-    let rc = room_cases _ _ _ _ _ _ _ (few_names _ c.requires.declared) c.requires.id_lt_name_limit r g in
-    let l = c.cases.ensures.lists in
-    record {
-      declared = c.requires.declared;
-      room = room_list (no_change_opening _) rc q;
-      spans = told_spans _ _ _ _ _ _ l g;
-      named = c.requires.named;
-      list_kept = told_kept _ _ _ _ _ _ r.within l g;
-    }
+    room_list (no_change_opening _) (room_cases _ _ _ _ _ _ _ (few_names _ c.requires.declared) c.requires.id_lt_name_limit r g) q
+
+pub agreeing_list-requires-clause-list_kept : goal.agreeing_list-requires-clause-list_kept
+unfolding is kind_number
+agreeing_list-requires-clause-list_kept c =
+    let p = found c.change_opening.ensures c.in_ok-a.was in
+    let r = room_phrase {u = c.args.to} (change_opening _) (refl, (refl, (refl, (refl, tt)))) c.requires.room p (omega arith) in
+    told_kept _ _ _ _ _ _ r.within c.cases.ensures.lists (got c.cases.ensures.writes c.in_ok-b.was)
 
 pub returns-in_err-e : goal.returns-in_err-e
 returns-in_err-e c =

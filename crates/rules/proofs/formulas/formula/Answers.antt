@@ -22,13 +22,13 @@ returns-in_err-token c =
     let f = is_fault _ _ _ (c.token_at.ensures.value, c.token_at.ensures.placed_in) _ c.in_err-token.was in
     rw (handed_on c.from_residual-in_err-token.ensures c.in_err-token.was) (refuses c.in_err-token.was (formula_fault _ _ _ _ p f))
 
-pub change-requires : goal.change-requires
+pub change-requires-clause-room : goal.change-requires-clause-room
 unfolding is kind_number
-change-requires c =
+change-requires-clause-room c =
     let p = found c.rule_opening.ensures c.in_ok-a.was in
     let r = room_phrase {u = c.args.to} rule_opening (refl, (refl, (refl, tt))) c.requires.room p (omega arith) in
     let t = found_token _ _ (c.token_at.ensures.value, c.token_at.ensures.placed_in) c.in_ok-token.was in
-    record { declared = c.requires.declared; room = room_token r t; id_lt_name_limit = c.requires.id_lt_name_limit; span_room = c.requires.span_room; named = c.requires.named }
+    room_token r t
 
 pub returns-then-token-eq-TILDE : goal.returns-then-token-eq-TILDE
 unfolding kind_of
@@ -37,12 +37,11 @@ returns-then-token-eq-TILDE c =
     let t = found_token _ _ (c.token_at.ensures.value, c.token_at.ensures.placed_in) c.in_ok-token.was in
     reads_as (formula_change _ _ _ _ p t.read (same_kinds _ 21 c.if-token-eq-TILDE.true)) c.change.ensures
 
-pub function-requires : goal.function-requires
+pub function-requires-clause-room : goal.function-requires-clause-room
 unfolding is kind_number
-function-requires c =
+function-requires-clause-room c =
     let p = found c.rule_opening.ensures c.in_ok-a.was in
-    let r = room_phrase {u = c.args.to} rule_opening (refl, (refl, (refl, tt))) c.requires.room p (omega arith) in
-    record { declared = c.requires.declared; room = r; id_lt_name_limit = c.requires.id_lt_name_limit }
+    room_phrase {u = c.args.to} rule_opening (refl, (refl, (refl, tt))) c.requires.room p (omega arith)
 
 pub returns : goal.returns
 unfolding kind_of

@@ -5,7 +5,7 @@ use Rattle.lexer.specs.Results.{kind_of}
 use Rattle.lexer.proofs.Tokens.{is_fault}
 use Rattle.phrases.proofs.Laws.{same_kinds, other_kinds}
 use Rattle.phrases.proofs.Writing.{refuses, reads_as}
-use Rattle.cases.proofs.Listing.{found_token, room_token}
+use Rattle.cases.proofs.Listing.{found_token}
 use Rattle.rules.proofs.Ways.{formulas_fault, formulas_pair, formulas_formula}
 use Rattle.rules.proofs.formulas.formulas.Goals as goal
 
@@ -13,11 +13,6 @@ pub returns-in_err-token : goal.returns-in_err-token
 returns-in_err-token c =
     let f = is_fault _ _ _ (c.token_at.ensures.value, c.token_at.ensures.placed_in) _ c.in_err-token.was in
     rw (handed_on c.from_residual.ensures c.in_err-token.was) (refuses c.in_err-token.was (formulas_fault _ _ _ _ f))
-
-pub pair-requires : goal.pair-requires
-pair-requires c =
-    let t = found_token _ _ (c.token_at.ensures.value, c.token_at.ensures.placed_in) c.in_ok-token.was in
-    record { declared = c.requires.declared; room = room_token c.requires.room t; id_lt_name_limit = c.requires.id_lt_name_limit; span_room = c.requires.span_room }
 
 pub returns-then-token-eq-PLUS : goal.returns-then-token-eq-PLUS
 unfolding kind_of

@@ -17,11 +17,11 @@ use Rattle.rules.proofs.formulas.function.Goals as goal
 pub returns-in_err-a : goal.returns-in_err-a
 returns-in_err-a c = rw (handed_on c.from_residual.ensures c.in_err-a.was) (not_expected c.value_opening.ensures c.in_err-a.was (value_unopened _ _ _ _))
 
-pub whole_expression-requires : goal.whole_expression-requires
+pub whole_expression-requires-clause-room : goal.whole_expression-requires-clause-room
 unfolding is kind_number
-whole_expression-requires c =
+whole_expression-requires-clause-room c =
     let p = found c.value_opening.ensures c.in_ok-a.was in
-    record { declared = c.requires.declared; room = room_phrase {u = c.args.to} (value_opening _) (refl, (refl, tt)) c.requires.room p (omega arith) }
+    room_phrase {u = c.args.to} (value_opening _) (refl, (refl, tt)) c.requires.room p (omega arith)
 
 pub returns-in_err-behind : goal.returns-in_err-behind
 returns-in_err-behind c =

@@ -18,16 +18,11 @@ pub returns-in_err-a : goal.returns-in_err-a
 unfolding kind_of
 returns-in_err-a c = rw (handed_on c.from_residual.ensures c.in_err-a.was) (not_expected c.turned_opening.ensures c.in_err-a.was (pair_unopened _ _ _ _))
 
-pub cases-requires : goal.cases-requires
+pub cases-requires-clause-room : goal.cases-requires-clause-room
 unfolding is kind_number kind_of
-cases-requires c =
+cases-requires-clause-room c =
     let p = found c.turned_opening.ensures c.in_ok-a.was in
-    record {
-      declared = c.requires.declared;
-      room = room_phrase {u = c.args.to} (turned_opening greater _) (refl, (refl, (refl, (refl, (refl, tt))))) c.requires.room p (omega arith);
-      id_lt_name_limit = c.requires.id_lt_name_limit;
-      limit_in_bounds = (c.requires.span_room.in_from, c.requires.span_room.in_upto, omega arith);
-    }
+    room_phrase {u = c.args.to} (turned_opening greater _) (refl, (refl, (refl, (refl, (refl, tt))))) c.requires.room p (omega arith)
 
 pub returns-in_err-b : goal.returns-in_err-b
 unfolding kind_of
@@ -50,20 +45,15 @@ overflow_sub-left c =
     let g = got c.cases.ensures.writes c.in_ok-b.was in
     omega (arith, g.tells_it, few_cases _ _ _ r.within g.is)
 
-pub cases-requires-2 : goal.cases-requires-2
+pub cases-requires-2-clause-room : goal.cases-requires-2-clause-room
 unfolding is kind_number kind_of
-cases-requires-2 c =
+cases-requires-2-clause-room c =
     let p = found c.turned_opening.ensures c.in_ok-a.was in
     let r = room_phrase {u = c.args.to} (turned_opening greater _) (refl, (refl, (refl, (refl, (refl, tt))))) c.requires.room p (omega arith) in
     let g = got c.cases.ensures.writes c.in_ok-b.was in
     let q = found c.falling_opening.ensures c.in_ok-d.was in
     let rc = room_cases _ _ _ _ _ _ case_limit (few_names _ c.requires.declared) c.requires.id_lt_name_limit r g in
-    record {
-      declared = c.requires.declared;
-      room = room_phrase {u = c.in_ok-b.b.to} (falling_opening _) (refl, (refl, (refl, (refl, (refl, (refl, (refl, (refl, tt)))))))) rc q (omega arith);
-      id_lt_name_limit = c.requires.id_lt_name_limit;
-      limit_in_bounds = (omega (arith, c.requires.span_room.in_from, c.cases.auto.from), omega (arith, c.requires.span_room.in_upto, c.cases.auto.upto), omega arith);
-    }
+    room_phrase {u = c.in_ok-b.b.to} (falling_opening _) (refl, (refl, (refl, (refl, (refl, (refl, (refl, (refl, tt)))))))) rc q (omega arith)
 
 pub returns-in_err-g : goal.returns-in_err-g
 unfolding kind_of
