@@ -26,6 +26,3 @@ module _ {z : ℤ} (f : SFits w32 z) where
 
   pub at_neg : le_z (pos 0) (to_z w32 (of_z w32 z)) ≡ false → z ≡ negsuc (mag z)
   at_neg e = is_below z (rw (same32 f) at e)
-
-  pub read : le_z (pos 0) (to_z w32 (of_z w32 z)) ≡ true → to_z w32 (of_z w32 z) ≡ pos (mag z)
-  read e = same32 f ∙ at_pos e
