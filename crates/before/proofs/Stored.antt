@@ -1,10 +1,10 @@
 -- What was read of an image stands at the front of lent memory. Assumes nothing.
 use Prim.Native.Nat.{ℕ, ◌≤◌}
 use native.Mathlib.Omega.{arith}
-use mathlib.Core.Path.{◌≡◌, sym, ap, ◌∙◌}
+use mathlib.Core.Path.{◌≡◌, sym, ◌∙◌}
 use mathlib.Core.List.{List}
 use lib.IntN.{ℤ}
-use lib.ListN.{length, take, length-map}
+use lib.ListN.{length, take}
 use lib.Seq.{sets}
 use Rattle.semantics.specs.Program.{Range}
 use Rattle.semantics.specs.Shape.{cells}
@@ -13,10 +13,8 @@ use Rattle.checker.proofs.Checking.{stored}
 use Rattle.shapes.specs.declared.Measured.{Measured}
 use Rattle.shapes.specs.Results.{Measures}
 use Rattle.machine.specs.Inner.Memory.{RangesIn}
-use Rattle.machine.proofs.Changes.{names_length}
-use Rattle.before.specs.Inner.Memory.{FittingMemory, Scratch}
-use Rattle.before.specs.Inner.Known.{KnownImage, KnownFront}
-use Rattle.before.proofs.Cells.{names_first}
+use Rattle.before.specs.Inner.Memory.{Scratch}
+use Rattle.before.specs.Inner.Known.{KnownFront}
 
 pub ranges_stored : (ns : List Range) (n : ℕ) (low low₁ high high₁ : List ℤ) → length ns ≡ n → n ≤ length low → n ≤ length high → low₁ ≡ sets low 0 (lows ns) → high₁ ≡ sets high 0 (highs ns)
     → RangesIn ns (take n low₁) (take n high₁)
@@ -49,11 +47,3 @@ known_front {image} {s} {m = m} h e x a b =
       highs = omega arith;
       copies = omega (arith, x.copies few);
     }
-
--- the memory of an image known to be sound
-pub known_fits : {image : List ℕ} {m : Measured} {state low high work : List ℤ} → KnownImage image m state low high → length work ≡ length state → FittingMemory m.inputs state low high work
-known_fits {image} {low = low} {high = high} k w =
-    let k₁ = k.shape in
-    let n : length low ≡ length (cells (shape_in image)) = sym (names_length (cells (shape_in image)) low high k₁.ranges) in
-    let h : length high ≡ length (cells (shape_in image)) = sym (ap length k₁.ranges.highs) ∙ length-map (cells (shape_in image)) (λ r. r.high) in
-    record { among = omega (arith, k.numbers, names_first (shape_in image), k₁.names_are, k₁.among); lows = n ∙ sym k.numbers; highs = h ∙ sym k.numbers; copies = w }

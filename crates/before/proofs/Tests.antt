@@ -1,5 +1,5 @@
 -- The tests before the code. Assumes nothing.
-use Prim.Native.Nat.{ℕ, ◌+◌, ◌^◌, ◌<◌}
+use Prim.Native.Nat.{ℕ, ◌+◌}
 use native.Mathlib.Omega.{arith}
 use mathlib.Core.Path.{◌≡◌, refl, sym, ap, ◌∙◌}
 use mathlib.Core.Bool.{Bool, true, false, ◌&&◌}
@@ -12,7 +12,6 @@ use borrow.Author.Tests.{eq-eqb, ne_eqb}
 use Rattle.std.specs.Prelude.{Result, Ok, Err}
 use Rattle.limits.specs.declared.Refusal.{Refusal}
 use Rattle.limits.specs.Answer.{accepted, refused}
-use Rattle.arith.specs.Values.{count}
 use Rattle.semantics.specs.Formula.{State, at}
 use Rattle.semantics.specs.Shape.{Shape, has_timer, cells, all_within, millis_of}
 use Rattle.semantics.specs.ReferenceScan.{with_inputs}
@@ -20,7 +19,6 @@ use Rattle.bytecode.proofs.Walk.{refused≢accepted}
 use Rattle.shapes.specs.declared.Measured.{Measured}
 use Rattle.machine.specs.declared.Timing.{Timing}
 use Rattle.machine.proofs.Changes.{names_length}
-use Rattle.machine.proofs.Timers.{millis_count}
 use Rattle.before.specs.declared.Code.{Code}
 use Rattle.before.specs.Before.{tested_before}
 use Rattle.before.specs.Inner.Known.{in_ranges, CopiedBy, KnownShape, tested_row, PreparedBy}
@@ -93,17 +91,3 @@ module _ {k : Shape} {m : Measured} {low high : List ℤ} (x : KnownShape k m lo
       timed_tested b z e =
           rw (some_timer, x.inputs_are, eq-eqb (length row) (m.inputs + 1) n, ← inputs_within, z)
           (then_tested (all_within (cells k) s) (all_within (cells k) (take m.inputs row)) b e)
-
-      pub timed_prepared : (ms : ℕ) (work : List ℤ) (r : Result Code Refusal) → ms ≡ count (at row m.inputs) → ms < 2 ^ 31 → CopiedBy m.place (timing_of ms) s (take m.inputs row) work r
-          → PreparedBy k m s row work r
-      timed_prepared ms work (Err r) e l c = c
-      timed_prepared ms work (Ok r) e l c = (
-        c.0,
-        record {
-          names_are = rw c.1;
-          timers_are = rw c.1;
-          short = rw c.1 (omega arith);
-          timed = rw c.1 (record { flags = x.flags; time = rw x.inputs_are (millis_count (at row m.inputs) ∙ sym e) });
-          copied = rw x.inputs_are c.2;
-        },
-      )

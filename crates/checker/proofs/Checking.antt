@@ -78,14 +78,8 @@ module _ (bytes : List ℕ) {low₀ high₀ start₀ low high start : List ℤ} 
   long_enough f l left e s = rw (s, length-sets) (omega (arith, x.extends.few))
 
   module _ (a : length low₀ ≡ 64) (b : length high₀ ≡ 64) (d : length start₀ ≡ 64) where
-    pub room_low : names ≤ length low
+    room_low : names ≤ length low
     room_low = long_enough (λ n. n.low) low₀ low a x.lower
-
-    pub room_high : names ≤ length high
-    room_high = long_enough (λ n. n.high) high₀ high b x.upper
-
-    pub room_start : names ≤ length start
-    room_start = long_enough (λ n. n.start) start₀ start d x.starting
 
     ranges_stand : RangesStand x.ranges (take names low) (take names high) (take names start)
     ranges_stand =

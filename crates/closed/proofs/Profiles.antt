@@ -9,8 +9,7 @@ use borrow.Author.Tests.{le-leb, lt-leb, leb-true, leb-false}
 use lib.Dec.{leb}
 use lib.IntN.{ℤ}
 use lib.ListN.{length, take, drop, length-drop, drop_of_length-le}
-use lib.Seq.{length-take-le, take_all, take-nil}
-use Rattle.limits.specs.Limits.{stack_limit}
+use lib.Seq.{take_all, take-nil}
 use Rattle.limits.specs.Answer.{Answer, accepted, refused}
 use Rattle.semantics.specs.Program.{Range}
 use Rattle.semantics.specs.ReferenceScan.{with_inputs}
@@ -21,7 +20,7 @@ use Rattle.bytecode.proofs.Limits.{no_times}
 use Rattle.bytecode.proofs.CheckNumbers.{CheckRefusal, too_long_lem, broken, check_numbers}
 use Rattle.machine.specs.Inner.Memory.{RangesIn}
 use Rattle.closed.specs.Closed.{product_of_sizes, input_ranges, is_small, combinations, Combination, paired, combinations_of, every_accepted, refused_at, walked, AfterClosed, leaves, if_small, combined_in, combination_of}
-use Rattle.closed.specs.Inner.Parts.{working, Walking, visited_as, part_working, combined_ranges}
+use Rattle.closed.specs.Inner.Parts.{working, visited_as, part_working, combined_ranges}
 use Rattle.closed.specs.declared.Visited.{Visited}
 use Rattle.closed.specs.declared.Visited.TheVariants as W
 use Rattle.closed.proofs.Combining.{combinations_count, paired_count}
@@ -148,21 +147,3 @@ module _ (ns : List Range) (inputs : ℕ) (code : List ℕ) (first most : ℕ) (
     closed_stopped r s t left right n e q a b =
         let k : walked (working ns code) (take most (drop first combos)) first ≡ refused_at n (record { state = s; row = t }) = sym part_is ∙ sym e ∙ ap (λ (x : Visited). visited_as x s t) q in
         rw (small, k, a, b)
-
--- ---- the lent memory, cut to the names and the inputs
-
-pub parts_walking : (low high s r w v : List ℤ) (names inputs : ℕ) → names ≤ length low → names ≤ length high → names ≤ length s → names ≤ length w → inputs ≤ names → inputs ≤ length r → length v ≡ stack_limit
-    → Walking (take names low) (take names high) (take inputs (take names low)) (take inputs (take names high)) (take names s) (take inputs r) (take names w) v
-parts_walking low high s r w v names inputs a b c e f g h =
-    let l = length-take-le names low a in
-    let k = length-take-le names high b in
-    let i : length (take inputs (take names low)) ≡ inputs = length-take-le inputs (take names low) (omega arith) in
-    record {
-      highs = k ∙ sym l;
-      states = length-take-le names s c ∙ sym l;
-      works = length-take-le names w e ∙ sym l;
-      stack = h;
-      row_highs = length-take-le inputs (take names high) (omega arith) ∙ sym i;
-      rows = length-take-le inputs r g ∙ sym i;
-      among = omega arith;
-    }

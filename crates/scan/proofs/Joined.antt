@@ -118,14 +118,3 @@ module _ {image : List ℕ} {place : ℕ} {low high : List ℤ} (found : State) 
 
     pub input_refused : all_within (header_of image).ranges found ≡ true → all_within (header_of image).ranges row ≡ false → refused_scan 13 0 0 found ≡ scan_of image found row
     input_refused a b = scan_wrong_input image found row sound untimed (sym k.many) (sym (known_inputs k)) a b
-
--- how large steps and places are
-module _ (code : List ℕ) (low high found row w ws : List ℤ) (r : Ended) (went : RunBy code low high found (length row) w ws r) where
-  pub done_steps : (n : ℕ) → r ≡ E.Done n → n ≤ length code
-  done_steps n e = let s : Succeeds code low high found (length row) w ws n = subst (λ x. RunBy code low high found (length row) w ws x) e went in s.within
-
-  pub refused_steps : (k n : ℕ) → r ≡ E.Refused k n → n ≤ length code
-  refused_steps k n e = let s : Fails code low high found (length row) w k n = subst (λ x. RunBy code low high found (length row) w ws x) e went in s.within
-
-  pub broken_place : (at : ℕ) → r ≡ E.Broken at → at ≤ length code
-  broken_place at e = let s : BrokenCode code (length row) (length low) at × (at ≤ length code) = subst (λ x. RunBy code low high found (length row) w ws x) e went in s.1

@@ -1,9 +1,8 @@
 -- The header again, and the walk over timers.
-use native.Mathlib.Omega.{arith}
 use mathlib.Core.Path.{sym, ap, ◌∙◌}
 use Rattle.std.proofs.lemmas.Result.{err_from_is_err_and}
 use Rattle.leb128.proofs.Stores.{rest_of}
-use Rattle.limits.specs.Refusals.{stands_for, judged_by}
+use Rattle.limits.specs.Refusals.{stands_for}
 use Rattle.bytecode.proofs.SoundHeader.{headed_stands, headed_broken}
 use Rattle.checker.proofs.Checking.{broken_header, timed_walked}
 use Rattle.checker.proofs.timed.survey_ranges.Goals as goal
