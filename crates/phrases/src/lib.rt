@@ -12,12 +12,15 @@ ghost use Rattle.phrases.specs.Inner.Steps.{parsed_of, nothing};
 use lexer::Step;
 use limits::Refusal;
 
-// A token of a kind.
+// A token of a kind. Here and in the next two `let .. else` takes the token out of its answer: the project's form for the tests of a token.
 pub fn expect(text: &[u8], at: usize, kind: u32) -> Step
     requires { kind ≤ last_kind }
     ensures { parsed_of nothing result ≡ expected text.now (sign (kind_of kind)) at }
 {
-    let found = lexer::token_at(text, at)?;
+    let read = lexer::token_at(text, at);
+    let Ok(found) = read else {
+        return read;
+    };
     if found.kind == kind {
         return lexer::reached(found.end, 0, 0);
     }
@@ -28,7 +31,10 @@ pub fn expect(text: &[u8], at: usize, kind: u32) -> Step
 fn expect_name(text: &[u8], at: usize, start: usize, end: usize) -> Step
     ensures { parsed_of nothing result ≡ expected text.now (own (part text.now start end)) at }
 {
-    let token = lexer::token_at(text, at)?;
+    let read = lexer::token_at(text, at);
+    let Ok(token) = read else {
+        return read;
+    };
     if token.kind == lexer::NAME {
         if lexer::same_name(
             lexer::name(text, start, end),
@@ -44,7 +50,10 @@ fn expect_name(text: &[u8], at: usize, start: usize, end: usize) -> Step
 fn expect_previous(text: &[u8], at: usize, start: usize, end: usize) -> Step
     ensures { parsed_of nothing result ≡ expected text.now (own_previous (part text.now start end)) at }
 {
-    let token = lexer::token_at(text, at)?;
+    let read = lexer::token_at(text, at);
+    let Ok(token) = read else {
+        return read;
+    };
     if token.kind == lexer::PREVIOUS {
         if lexer::same_name(
             lexer::name(text, start, end),
