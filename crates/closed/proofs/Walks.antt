@@ -4,7 +4,7 @@ use mathlib.Core.Bool.{true, false}
 use mathlib.Core.List.{List, [], ◌∷◌}
 use mathlib.Core.Option.{some}
 use Prim.Native.Nat.{ℕ, zero, suc, ◌+◌, ◌-◌, ◌*◌, ◌/◌, ◌%◌, ◌≤◌, ◌<◌}
-use native.Mathlib.Nat.{lt_of_mul-lt-mul_right, div-add-mod', mod-lt}
+use native.Mathlib.Nat.{mul-le-mul, lt_of_mul-lt-mul_right, div-add-mod', mod-lt}
 use native.Mathlib.Omega.{arith}
 use native.Mathlib.Numerals.{add-one}
 use lib.IntN.{ℤ}
@@ -13,7 +13,7 @@ use Rattle.limits.specs.Answer.{Answer, accepted, refused}
 use Rattle.semantics.specs.Program.{Range}
 use Rattle.semantics.specs.Formula.{State}
 use Rattle.machine.specs.Inner.Memory.{RangesIn}
-use Rattle.closed.specs.Closed.{product_of_sizes, combinations, Combination, paired, Walked, refused_at, go_on, walked}
+use Rattle.closed.specs.Closed.{product_of_sizes, combinations, Combination, paired, Walked, every_accepted, refused_at, go_on, walked}
 use Rattle.closed.specs.Inner.Parts.{next_of, is_refused, working, Walking, IsNth}
 use Rattle.closed.proofs.Combining.{combinations_next, combinations_again, combinations_count}
 use Rattle.closed.proofs.Numbering.{pair_at_lem}
@@ -107,11 +107,17 @@ module _ (f : Scans) (ns is : List Range) (rows first end : ℕ) (e : rows ≡ p
       more : done < end → suc i * rows < product_of_sizes ns * rows
       more h = rw e (let a = (rw e at (g h)) in omega arith)
 
+  pub outer_ends : (i done : ℕ) (state : State) (row : List ℤ) → Outer f ns is rows first end i done state row → end ≤ done → every_accepted ≡ ahead f ns is end first
+  outer_ends i done state row o h = let z : end - done ≡ 0 = omega arith in sym (o.goes ∙ rw z)
+
 -- ---- the numbers
 
 -- the state that a number begins with
 pub begins_behind : (first rows : ℕ) → 1 ≤ rows → first < first / rows * rows + rows
 begins_behind first rows h = omega (arith, div-add-mod' first rows, mod-lt first h)
+
+pub few_states : (i rows : ℕ) → 1 ≤ rows → i ≤ i * rows
+few_states i rows h = let k : i * 1 ≤ i * rows = mul-le-mul {n₁ = i} {n₂ = i} (omega arith) h in omega arith
 
 -- ---- the invariants
 

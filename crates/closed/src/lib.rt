@@ -128,18 +128,21 @@ fn walk(
     nth(low, high, i, state);
     nth(row_low, row_high, first % rows, row);
     let mut done = first;
-    // No `for`: `done` goes on by a state's rows, of which the first and the last state may have fewer.
-    while done < end {
+    // Nested `while`s left by a label, the project's form: where the walk was left is what is answered.
+    'states: while done < end {
         let stop = lists::behind(i * rows, rows, end);
-        for at in done..stop {
+        while done < stop {
             if is_refused(code, low, high, state, row, work, vals) {
-                return Visited::Until(at);
+                break 'states;
             }
             next(row_low, row_high, row);
+            done += 1;
         }
         next(low, high, state);
-        done = stop;
         i += 1;
+    }
+    if done < end {
+        return Visited::Until(done);
     }
     Visited::Every
 }
