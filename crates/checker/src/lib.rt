@@ -9,7 +9,6 @@ ghost use Rattle.checker.specs.Inner.Surveys.{ReadHeader};
 ghost use Rattle.checker.specs.Results.{checked_answer, CheckedWithin, surveyed_answer, SurveyedBy, Judges, VerdictWithin};
 
 use advance::Walk;
-use ahead::Stretch;
 
 pub mod advance;
 pub mod ahead;
@@ -72,7 +71,7 @@ pub fn walk_from(code: &[u8], from: usize, first: Walk) -> Verdict
     let mut at = from;
     let mut w = first;
     while at < code.len() {
-        let Stretch::Taken(k, next) = ahead::ahead(code, at, w) else {
+        let Some((k, next)) = ahead::ahead(code, at, w) else {
             if code[at] == bytecode::opcode::TIMER {
                 return Verdict::Timed;
             }
@@ -120,8 +119,8 @@ pub fn survey(image: &[u8]) -> Surveyed
     let mut high = [0i32; 1];
     let mut start = [0i32; 1];
     match bytecode::header(image, &mut low, &mut high, &mut start) {
-        bytecode::Headed::Broken(place) => Surveyed::Refused(limits::BROKEN_IMAGE, place),
-        bytecode::Headed::Header(inputs, names, place) => survey_code(image, inputs, names, place),
+        Err(place) => Surveyed::Refused(limits::BROKEN_IMAGE, place),
+        Ok((inputs, names, place)) => survey_code(image, inputs, names, place),
     }
 }
 

@@ -14,7 +14,7 @@ use Rattle.semantics.specs.Formula.{State}
 use Rattle.semantics.specs.Shape.{has_timer, cells, all_within, setting_of}
 use Rattle.semantics.specs.ReferenceScan.{with_inputs}
 use Rattle.bytecode.specs.Check.{Header, known, check_header, check_code, check_of}
-use Rattle.bytecode.specs.Parts.{header_of, code_of, limits_of, shape_in, lows, highs}
+use Rattle.bytecode.specs.Parts.{header_of, code_of, limits_of, shape_in}
 use Rattle.bytecode.specs.Inner.Timers.{NoTimers}
 use Rattle.bytecode.specs.Results.{HeaderStands}
 use Rattle.bytecode.proofs.Limits.{none_has_timer, cells_untimed}

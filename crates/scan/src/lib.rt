@@ -16,7 +16,6 @@ ghost use Rattle.scan.specs.Results.{after_start, StartedWithin, after_scan, Sca
 ghost use Rattle.scan.specs.Inner.Parts.{ran_over, scanned_over, KnownHeader, StartedFor};
 
 use before::Before;
-use bytecode::Headed;
 use checker::Surveyed;
 use fused::Ended;
 use machine::{Executed, Registers, Stepped, Timing, lists};
@@ -246,8 +245,8 @@ fn scan_in(
         return Scanned::Refused(limits::TOO_LONG, 0, 0);
     }
     match bytecode::header(image, low, high, work) {
-        Headed::Broken(place) => Scanned::Refused(limits::BROKEN_IMAGE, place, 0),
-        Headed::Header(inputs, names, place) => {
+        Err(place) => Scanned::Refused(limits::BROKEN_IMAGE, place, 0),
+        Ok((inputs, names, place)) => {
             if state.len() != names {
                 return after_check(image, state, row, limits::WRONG_LENGTH);
             }
@@ -319,7 +318,8 @@ pub fn start_shape(image: &[u8], state: &mut [i32], low: &mut [i32], high: &mut 
     };
     let mut lows = [0i32; 1];
     let mut highs = [0i32; 1];
-    bytecode::header(image, &mut lows, &mut highs, state);
+    // `shape_for` found the image sound, so this stores the starts
+    let _ = bytecode::header(image, &mut lows, &mut highs, state);
     clear(state, m.names);
     shaped
 }

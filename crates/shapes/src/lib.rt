@@ -96,8 +96,8 @@ fn shape_times(image: &[u8], low: &mut [i32], high: &mut [i32], table: &mut [u64
 {
     let mut start = [0i32; 1];
     match bytecode::header(image, low, high, &mut start) {
-        bytecode::Headed::Broken(place) => Shaped::Refused(limits::BROKEN_IMAGE, place),
-        bytecode::Headed::Header(inputs, names, place) => {
+        Err(place) => Shaped::Refused(limits::BROKEN_IMAGE, place),
+        Ok((inputs, names, place)) => {
             let t = measure_times(&image[place..], &mut table[..names], low, high);
             Shaped::Shape(Measured {
                 inputs,
@@ -126,8 +126,8 @@ fn shape_plain(image: &[u8], low: &mut [i32], high: &mut [i32]) -> Shaped
 {
     let mut start = [0i32; 1];
     match bytecode::header(image, low, high, &mut start) {
-        bytecode::Headed::Broken(place) => Shaped::Refused(limits::BROKEN_IMAGE, place),
-        bytecode::Headed::Header(inputs, names, place) => Shaped::Shape(Measured {
+        Err(place) => Shaped::Refused(limits::BROKEN_IMAGE, place),
+        Ok((inputs, names, place)) => Shaped::Shape(Measured {
             inputs,
             names,
             size: names,

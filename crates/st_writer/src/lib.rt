@@ -124,14 +124,14 @@ pub fn mirror(code: &[u8], out: &mut [u8])
     let mut to = code.len();
     while at < code.len() {
         match bytecode::fetch(code, at) {
-            bytecode::Fetched::Instruction(_, _, next) => {
+            Some(bytecode::Fetched::Instruction(_, _, next)) => {
                 to = bytes_before(out, to, &code[at..next]);
                 at = next;
             }
-            bytecode::Fetched::Timer(_, _, _, _) => {
+            Some(bytecode::Fetched::Timer(_, _, _, _)) => {
                 return;
             }
-            bytecode::Fetched::Malformed => {
+            None => {
                 return;
             }
         }
