@@ -111,10 +111,6 @@ int32_fits {z} t = record { sfits = int32_mag z t }
 pub fits_int32 : {z : ℤ} → SFits w32 z → T (is_int32 z)
 fits_int32 {z} f = mag_int32 z f.sfits
 
-pub in32 : (z : ℤ) → le_z (negsuc 2147483647) z ≡ true → le_z z (pos 2147483647) ≡ true → SFits w32 z
-in32 (pos n) p q = record { sfits = omega (arith, leb-true n 2147483647 q) }
-in32 (negsuc n) p q = record { sfits = omega (arith, leb-true n 2147483647 p) }
-
 -- ---- a divisor: the code's test of its bits against 0
 pub zero_bits : {b : ℤ} → SFits w32 b → of_z w64 (to_z w32 (of_z w32 b)) ≡ 0 → b ≡ pos 0
 zero_bits f e = sym (widened f) ∙ ap (to_z w64) e

@@ -7,14 +7,7 @@ ghost use Rattle.arith.specs.Results.{outcome_of};
 
 pub mod bits;
 
-// A signed 32-bit number, or refusal 14.
-#[derive(Clone, Copy)]
-pub enum Value {
-    Is(i32),
-    Refused,
-}
-
-// A number outside the 32-bit signed range: `narrow` makes refusal 14 of it.
+// A number outside the 32-bit signed range: `narrow` makes none of it.
 const OUTSIDE: i64 = 2147483648;
 
 // A number as a count; of a negative one, 0.
@@ -24,16 +17,11 @@ pub fn count(z: i32) -> u64
     z.max(0) as u64
 }
 
-// The number where it is in the 32-bit signed range.
-pub fn narrow(x: i64) -> Value
+// The number where it is in the 32-bit signed range; none is refusal 14.
+pub fn narrow(x: i64) -> Option<i32>
     ensures { outcome_of result ≡ int32 x }
 {
-    if -2147483648 <= x {
-        if x <= 2147483647 {
-            return Value::Is(x as i32);
-        }
-    }
-    Value::Refused
+    i32::try_from(x).ok()
 }
 
 // The exact result of an operation; `narrow` casts it back.
@@ -85,7 +73,7 @@ pub fn remainder(a: i32, b: i32) -> i64
     x % y
 }
 
-pub fn negated(a: i32) -> Value
+pub fn negated(a: i32) -> Option<i32>
     ensures { outcome_of result ≡ negation a }
 {
     let x = a as i64;

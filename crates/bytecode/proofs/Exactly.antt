@@ -18,7 +18,7 @@ use Rattle.leb128.specs.Numbers.{Read, got, nothing, number_at, signed_at}
 use Rattle.bytecode.specs.Instructions.{Instruction, fetch}
 use Rattle.bytecode.specs.Translation.{RangesFit}
 use Rattle.bytecode.specs.Signature.{Sort, number, truth, Role, pushes, computes, tests, opens, picks, lets, settles, times, signature}
-use Rattle.bytecode.specs.Check.{Picks, Known, known, one, empty, unset, closed, fresh, opened, taking, admits, advance, suits, complete, item, check_range, check_ranges, check_counts, Header, check_header, ends, check_code, at_start, check_body, check_of}
+use Rattle.bytecode.specs.Check.{Picks, Known, known, one, empty, unset, closed, fresh, opened, taking, admits, advance, suits, complete, item, check_range, check_ranges, check_counts, Header, check_header, check_code, at_start, check_body, check_of}
 use Rattle.bytecode.specs.Parts.{header_of, code_of, counted, count_from, instructions_in}
 use Rattle.bytecode.specs.Sound.{RangesAt, SpellsCode, Sound}
 use Rattle.bytecode.specs.Allowed.{left_in, left_by, left_by_all, AllowedIn, Allowed, Finished}

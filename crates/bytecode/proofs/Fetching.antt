@@ -5,14 +5,13 @@ use mathlib.Core.Path.{◌≡◌, refl, sym, ap, subst, ◌∙◌}
 use mathlib.Core.Bool.{Bool, true, false, cond}
 use mathlib.Core.List.{List, [], ◌∷◌}
 use mathlib.Core.Option.{Option}
+use Rattle.std.specs.Prelude.{Some, None}
 use lib.Dec.{eqb, ltb}
 use lib.ListN.{length, get_or, drop, length-drop, get_or-eq_default}
 use borrow.Author.Tests.{lt-ltb, le-ltb, ltb-true, eqb-true, ne_eqb}
 use Rattle.leb128.specs.Numbers.{Found, found, none, grouped, number_in, Read, got, nothing, ◌then◌, below32, number_at}
 use Rattle.bytecode.specs.Instructions.{Instruction, timer, instruction_of, has_operand, decoded, fetch_one, timer_at, fetch}
-use Rattle.bytecode.specs.declared.Single.{Single}
-use Rattle.bytecode.specs.declared.Single.TheVariants as P
-use Rattle.bytecode.specs.Results.{Bounded, single_read, SingleWithin}
+use Rattle.bytecode.specs.Results.{Bounded, Single, single_read, SingleWithin}
 use Rattle.bytecode.proofs.Codes.{unlisted_low, unlisted_high}
 
 -- ---- the bytes of a number
@@ -116,17 +115,17 @@ abbrev pub SingleAt : List ℕ → ℕ → Single → Type 0
 SingleAt bytes at r = (single_read r ≡ fetch_one bytes at) × SingleWithin (length bytes) at r
 
 module _ (bytes : List ℕ) (at : ℕ) where
-  pub single_end : length bytes ≤ at → SingleAt bytes at P.Malformed
+  pub single_end : length bytes ≤ at → SingleAt bytes at None
   single_end h = (sym (fetch_none bytes at h), tt)
 
   module _ (h : at < length bytes) where
-    pub single_alone : has_operand (get_or bytes at 0) ≡ false → SingleAt bytes at (P.Instruction (get_or bytes at 0) 0 (at + 1))
+    pub single_alone : has_operand (get_or bytes at 0) ≡ false → SingleAt bytes at (Some (get_or bytes at 0, 0, at + 1))
     single_alone o = (sym (fetch_alone bytes at h o), record { operand = omega arith; behind = omega arith; inside = omega (arith, h) })
 
-    pub single_malformed : has_operand (get_or bytes at 0) ≡ true → number_at bytes (at + 1) ≡ nothing → SingleAt bytes at P.Malformed
+    pub single_malformed : has_operand (get_or bytes at 0) ≡ true → number_at bytes (at + 1) ≡ nothing → SingleAt bytes at None
     single_malformed o e = (sym (fetch_malformed bytes at h o e), tt)
 
-    pub single_number : (n next : ℕ) → has_operand (get_or bytes at 0) ≡ true → number_at bytes (at + 1) ≡ got n next → SingleAt bytes at (P.Instruction (get_or bytes at 0) n next)
+    pub single_number : (n next : ℕ) → has_operand (get_or bytes at 0) ≡ true → number_at bytes (at + 1) ≡ got n next → SingleAt bytes at (Some (get_or bytes at 0, n, next))
     single_number n next o e =
         let w = number_within bytes (at + 1) n next e in
         (sym (fetch_number bytes at n next h o e), record { operand = w.operand; behind = omega (arith, w.behind); inside = w.inside })

@@ -12,6 +12,8 @@ use lib.Signed.{le_z, lt_z}
 use borrow.Author.Tests.{le-leb, lt-leb, ltb-true, ltb-false}
 use mir.Syntax.{w32}
 use mir.Val.{SFits}
+use Rattle.std.specs.Prelude.{Option, None, Result, Err}
+use Rattle.std.specs.Option.{ok_or}
 use Rattle.limits.specs.Answer.{Answer, accepted, refused}
 use Rattle.arith.specs.Values.{is_int32}
 use Rattle.arith.proofs.Basics.{T_true}
@@ -25,6 +27,11 @@ use Rattle.bytecode.specs.Parts.{lows, highs, starts}
 use Rattle.bytecode.specs.Results.{HeaderStands}
 use Rattle.bytecode.proofs.Fetching.{number_within}
 use Rattle.bytecode.specs.Sound.{RangesAt}
+
+-- ---- a `?` behind `ok_or`, where there is nothing: what it answers is the error
+pub nothing_gives : {T U : Type 0} (r : Result U ℕ) (o : Option T) (e y : ℕ) → (z : ℕ) × (r ≡ Err z) × (z ≡ y) → ◌≡◌ {A = Result T ℕ} (Err y) (ok_or o e)
+    → o ≡ None → r ≡ Err e
+nothing_gives {T} r o e y p v n = let w : ◌≡◌ {A = Result T ℕ} (ok_or o e) (Err e) = rw n in cc
 
 -- ---- a signed number
 

@@ -1,17 +1,15 @@
 -- The header of a sound image, as the running code reads it. Assumes nothing.
-use mathlib.Core.Path.{◌≡◌, sym, ap, subst, ◌∙◌}
+use mathlib.Core.Path.{◌≡◌, sym, ap, ◌∙◌}
 use mathlib.Core.List.{List}
 use Prim.Native.Nat.{ℕ, ◌≤◌}
 use native.Mathlib.Omega.{arith}
 use lib.IntN.{ℤ}
 use lib.ListN.{length}
 use lib.Seq.{sets}
-use Rattle.limits.specs.Answer.{Answer, accepted, refused}
+use Rattle.limits.specs.Answer.{accepted, refused}
 use Rattle.bytecode.specs.Check.{Header, check_header, check_of}
 use Rattle.bytecode.specs.Parts.{header_of, lows, highs, starts}
-use Rattle.bytecode.specs.Results.{HeaderStands, HeadedAs, HeadedBy}
-use Rattle.bytecode.specs.declared.Headed.{Headed}
-use Rattle.bytecode.specs.declared.Headed.TheVariants as H
+use Rattle.bytecode.specs.Results.{HeaderStands}
 use Rattle.bytecode.proofs.Walk.{SoundImage, check_sound}
 
 pub header_is : (image : List ℕ) (y : SoundImage image) → header_of image ≡ y.header
@@ -30,13 +28,6 @@ unfolding header_of
 header_found image h e = rw e
 
 -- ---- what the reader of a header answers
-
-module _ {a : Answer Header} {n : ℕ} {low₀ high₀ start₀ low high start : List ℤ} {r : Headed} (x : HeadedBy a n low₀ high₀ start₀ low high start r) where
-  pub headed_stands : {inputs names place : ℕ} → r ≡ H.Header inputs names place → HeaderStands a n low₀ high₀ start₀ low high start inputs names place
-  headed_stands e = subst (λ (q : Headed). HeadedAs a n low₀ high₀ start₀ low high start q) e x.so
-
-  pub headed_broken : {place : ℕ} → r ≡ H.Broken place → (a ≡ refused 11 place) × (place ≤ n)
-  headed_broken e = subst (λ (q : Headed). HeadedAs a n low₀ high₀ start₀ low high start q) e x.so
 
 module _ (image : List ℕ) {n : ℕ} {low₀ high₀ start₀ low high start : List ℤ} {inputs names place : ℕ} (x : HeaderStands (check_header image) n low₀ high₀ start₀ low high start inputs names place) where
   pub header_counts : SoundCounts image inputs names

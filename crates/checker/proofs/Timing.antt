@@ -20,10 +20,9 @@ use Rattle.bytecode.specs.Check.{known, advance, follows, is_timer_range, suits,
 use Rattle.bytecode.proofs.Timeless.{suits_timeless, code_timeless}
 use Rattle.checker.specs.declared.advance.Walk.{Walk}
 use Rattle.checker.specs.declared.timed.Last.{Last}
-use Rattle.checker.specs.declared.timed.Turned.{Turned}
-use Rattle.checker.specs.declared.timed.Turned.TheVariants as U
+use Rattle.std.specs.Prelude.{Some, None}
 use Rattle.checker.specs.Inner.Walk.{known_of, advance_by, Small, initial_walk}
-use Rattle.checker.specs.Inner.Timed.{RangesStand, LastBy, PlainBy, TimedBy, Turns, TurnsBy}
+use Rattle.checker.specs.Inner.Timed.{Turned, RangesStand, LastBy, PlainBy, TimedBy, Turns, TurnsBy}
 use Rattle.checker.proofs.Walking.{initial_small, initial_known}
 
 -- ---- the instruction before
@@ -106,12 +105,12 @@ suits_is low high start l t w n ns before s b = rw (timer_range_is ns low high s
 -- ---- one instruction
 
 module _ (code : List ℕ) (at : ℕ) (w : Walk) (last : Last) (low high start : List ℤ) (l : at < length code) where
-  pub nothing_turns : fetch code at ≡ nothing → TurnsBy code at w last low high start U.Broken
+  pub nothing_turns : fetch code at ≡ nothing → TurnsBy code at w last low high start None
   nothing_turns e ns before s b base f = rw (lt-ltb at (length code) l, e)
 
   module _ (next : ℕ) (behind : at < next) (inside : next ≤ length code) where
     pub plain_turns : (byte n : ℕ) (i : Instruction) → instruction_of byte n ≡ some i → fetch code at ≡ got i next → (r : Turned) → PlainBy byte n next w r → TurnsBy code at w last low high start r
-    plain_turns byte n i is e (U.Taken k m to) p =
+    plain_turns byte n i is e (Some (k, m, to)) p =
         rw p.3
         (record {
           small = p.1;
@@ -121,11 +120,11 @@ module _ (code : List ℕ) (at : ℕ) (w : Walk) (last : Last) (low high start :
           lastly = subst (λ (o : Option Instruction). LastBy o m) is p.2;
           goes = λ ns before s b base f. let q : advance i (known_of w) ≡ some (known_of k) = sym (ap (λ (o : Option Instruction). advance_by o (known_of w)) is) ∙ p.0 in rw (lt-ltb at (length code) l, e, suits_timeless ns before (signature i).role (code_timeless byte n i is), q);
         })
-    plain_turns byte n i is e U.Broken p =
+    plain_turns byte n i is e None p =
         λ ns before s b base f. let q : advance i (known_of w) ≡ none = sym (ap (λ (o : Option Instruction). advance_by o (known_of w)) is) ∙ p in rw (lt-ltb at (length code) l, e, suits_timeless ns before (signature i).role (code_timeless byte n i is), q)
 
     pub timer_turns : (t v n : ℕ) → fetch code at ≡ got (timer t v n) next → (r : Turned) → TimedBy t v n next w last low high start r → TurnsBy code at w last low high start r
-    timer_turns t v n e (U.Taken k m to) p =
+    timer_turns t v n e (Some (k, m, to)) p =
         rw p.4
         (record {
           small = p.2;
@@ -135,7 +134,7 @@ module _ (code : List ℕ) (at : ℕ) (w : Walk) (last : Last) (low high start :
           lastly = p.3;
           goes = λ ns before s b base f. rw (lt-ltb at (length code) l, e, p.0 ns before s b, p.1);
         })
-    timer_turns t v n e U.Broken p = λ ns before s b base f. rw (lt-ltb at (length code) l, e) (p ns before s b (base + at) _)
+    timer_turns t v n e None p = λ ns before s b base f. rw (lt-ltb at (length code) l, e) (p ns before s b (base + at) _)
 
 -- ---- each turn of the loop
 
@@ -165,7 +164,7 @@ module _ {code : List ℕ} {base : ℕ} {low high start : List ℤ} {inputs at :
       on ns s (before, zero, b, h, e) = let z : ⊥ = omega (arith, inside, h) in absurd z
       on ns s (before, suc f, b, h, e) = (some t.instruction, f, t.lastly, omega (arith, t.behind, h), e ∙ t.goes ns before s b base f)
 
-  pub timing_breaks : at < length code → TurnsBy code at w last low high start U.Broken → (ns : List Range) → RangesStand ns low high start
+  pub timing_breaks : at < length code → TurnsBy code at w last low high start None → (ns : List Range) → RangesStand ns low high start
       → refused 11 (base + at) ≡ check_code ns base code (length code) 0 none (known [] false none (known_first inputs (length low)))
   timing_breaks inside t ns s = on (x.goes ns s)
     where

@@ -35,25 +35,19 @@ pub struct Walk {
     pub names: u64,
 }
 
-#[derive(Clone, Copy)]
-pub enum Advanced {
-    Kept(Walk),
-    Broken,
-}
-
-// A number more is held, never over 40.
-pub fn push(w: Walk) -> Advanced
+// A number more is held, never over 40. Here and below, `None` is what breaks soundness.
+pub fn push(w: Walk) -> Option<Walk>
     requires { Small w }
     ensures result_value { advanced_known result ≡ pushed (known_of w) }
     ensures small_after { SmallAfter result }
 {
     if (limits::STACK_LIMIT as u64) <= w.held {
-        return Advanced::Broken;
+        return None;
     }
     let mut k = w;
     k.held = w.held + 1;
     k.sorts = w.sorts * 2;
-    Advanced::Kept(k)
+    Some(k)
 }
 
 pub fn is_known(w: Walk, id: u64) -> bool
@@ -66,7 +60,7 @@ pub fn is_known(w: Walk, id: u64) -> bool
     bits::bit(w.known, id)
 }
 
-pub fn current(w: Walk, id: u64) -> Advanced
+pub fn current(w: Walk, id: u64) -> Option<Walk>
     requires { Small w }
     ensures result_value { advanced_known result ≡ advance_of (current_of id) (known_of w) }
     ensures small_after { SmallAfter result }
@@ -74,10 +68,10 @@ pub fn current(w: Walk, id: u64) -> Advanced
     if is_known(w, id) {
         return push(w);
     }
-    Advanced::Broken
+    None
 }
 
-pub fn previous(w: Walk, id: u64) -> Advanced
+pub fn previous(w: Walk, id: u64) -> Option<Walk>
     requires { Small w }
     ensures result_value { advanced_known result ≡ advance_of (previousOf id) (known_of w) }
     ensures small_after { SmallAfter result }
@@ -85,65 +79,65 @@ pub fn previous(w: Walk, id: u64) -> Advanced
     if id < w.names {
         return push(w);
     }
-    Advanced::Broken
+    None
 }
 
 // The value on top has this sort.
-pub fn keep(w: Walk, sort: u64) -> Advanced
+pub fn keep(w: Walk, sort: u64) -> Option<Walk>
     requires { (Small w) × (sort < 2) }
     ensures result_value { advanced_known result ≡ kept (sort_of sort) (known_of w) }
     ensures small_after { SmallAfter result }
 {
     if w.held == 0 {
-        return Advanced::Broken;
+        return None;
     }
     if w.sorts % 2 != sort {
-        return Advanced::Broken;
+        return None;
     }
-    Advanced::Kept(w)
+    Some(w)
 }
 
 // Two values of a sort give way to one of the sort `made`.
-pub fn join(w: Walk, sort: u64, made: u64) -> Advanced
+pub fn join(w: Walk, sort: u64, made: u64) -> Option<Walk>
     requires { (Small w) × (sort < 2) × (made < 2) }
     ensures result_value { advanced_known result ≡ joined (sort_of sort) (sort_of made) (known_of w) }
     ensures small_after { SmallAfter result }
 {
     if w.held < 2 {
-        return Advanced::Broken;
+        return None;
     }
     if w.sorts % 2 != sort {
-        return Advanced::Broken;
+        return None;
     }
     let below = w.sorts / 2;
     if below % 2 != sort {
-        return Advanced::Broken;
+        return None;
     }
     let mut k = w;
     k.held = w.held - 1;
     k.sorts = below / 2 * 2 + made;
-    Advanced::Kept(k)
+    Some(k)
 }
 
 // Codes 10 to 18 do not stand between a gate and its pick.
-pub fn test(w: Walk, sort: u64) -> Advanced
+pub fn test(w: Walk, sort: u64) -> Option<Walk>
     requires { (Small w) × (sort < 2) }
     ensures result_value { advanced_known result ≡ outside (open_of w.gate) (joined (sort_of sort) truth (known_of w)) }
     ensures small_after { SmallAfter result }
 {
     if w.gate != 0 {
-        return Advanced::Broken;
+        return None;
     }
     join(w, sort, TRUTH)
 }
 
-pub fn invert(w: Walk) -> Advanced
+pub fn invert(w: Walk) -> Option<Walk>
     requires { Small w }
     ensures result_value { advanced_known result ≡ outside (open_of w.gate) (kept truth (known_of w)) }
     ensures small_after { SmallAfter result }
 {
     if w.gate != 0 {
-        return Advanced::Broken;
+        return None;
     }
     keep(w, TRUTH)
 }
@@ -159,16 +153,16 @@ fn holds_only(w: Walk, sort: u64) -> bool
     w.sorts % 2 == sort
 }
 
-pub fn gate(w: Walk) -> Advanced
+pub fn gate(w: Walk) -> Option<Walk>
     requires { Small w }
     ensures result_value { advanced_known result ≡ advance_of gate_of (known_of w) }
     ensures small_after { SmallAfter result }
 {
     if w.gate != 0 {
-        return Advanced::Broken;
+        return None;
     }
     if holds_only(w, TRUTH) {
-        return Advanced::Kept(Walk {
+        return Some(Walk {
             held: 0,
             sorts: 0,
             gate: 1,
@@ -177,7 +171,7 @@ pub fn gate(w: Walk) -> Advanced
             names: w.names,
         });
     }
-    Advanced::Broken
+    None
 }
 
 // A declared variable, no input, neither settled nor let.
@@ -208,24 +202,24 @@ fn may_pick(w: Walk, side: u64, id: u64) -> bool
     w.picking == 3 * id + 2
 }
 
-pub fn pick(w: Walk, side: u64, id: u64) -> Advanced
+pub fn pick(w: Walk, side: u64, id: u64) -> Option<Walk>
     requires { (Small w) × (side < 3) × (id < 2 ^ 32) }
     ensures result_value { advanced_known result ≡ advance_of (pick_of (side_of side) id) (known_of w) }
     ensures small_after { SmallAfter result }
 {
     if w.gate == 0 {
-        return Advanced::Broken;
+        return None;
     }
     if !holds_only(w, NUMBER) {
-        return Advanced::Broken;
+        return None;
     }
     if !is_unset(w, id) {
-        return Advanced::Broken;
+        return None;
     }
     if !may_pick(w, side, id) {
-        return Advanced::Broken;
+        return None;
     }
-    Advanced::Kept(Walk {
+    Some(Walk {
         held: 0,
         sorts: 0,
         gate: 0,
@@ -251,24 +245,24 @@ fn ruled(w: Walk, id: u64) -> Walk
     }
 }
 
-pub fn assign(w: Walk, id: u64) -> Advanced
+pub fn assign(w: Walk, id: u64) -> Option<Walk>
     requires { Small w }
     ensures result_value { advanced_known result ≡ advance_of (assignOf id) (known_of w) }
     ensures small_after { SmallAfter result }
 {
     if w.gate != 0 {
-        return Advanced::Broken;
+        return None;
     }
     if !holds_only(w, NUMBER) {
-        return Advanced::Broken;
+        return None;
     }
     if !is_unset(w, id) {
-        return Advanced::Broken;
+        return None;
     }
     if w.picking != 0 {
-        return Advanced::Broken;
+        return None;
     }
-    Advanced::Kept(ruled(w, id))
+    Some(ruled(w, id))
 }
 
 // Picks of this id await their settle, and the last is not a rising one.
@@ -282,50 +276,50 @@ fn may_settle(w: Walk, id: u64) -> bool
     w.picking == 3 * id + 3
 }
 
-pub fn settle(w: Walk, id: u64) -> Advanced
+pub fn settle(w: Walk, id: u64) -> Option<Walk>
     requires { (Small w) × (id < 2 ^ 32) }
     ensures result_value { advanced_known result ≡ advance_of (settleOf id) (known_of w) }
     ensures small_after { SmallAfter result }
 {
     if w.gate != 0 {
-        return Advanced::Broken;
+        return None;
     }
     if w.held != 0 {
-        return Advanced::Broken;
+        return None;
     }
     if !is_unset(w, id) {
-        return Advanced::Broken;
+        return None;
     }
     if !may_settle(w, id) {
-        return Advanced::Broken;
+        return None;
     }
-    Advanced::Kept(ruled(w, id))
+    Some(ruled(w, id))
 }
 
 // A timer is as a let, but that it takes nothing; what else is asked of it goes by the ranges and the instruction before.
-pub fn timer(w: Walk, id: u64) -> Advanced
+pub fn timer(w: Walk, id: u64) -> Option<Walk>
     requires { Small w }
     ensures by_index { (watched limit : ℕ) → advanced_known result ≡ advance_of (timerOf id watched limit) (known_of w) }
     ensures small_after { SmallAfter result }
 {
     if w.gate != 0 {
-        return Advanced::Broken;
+        return None;
     }
     if 0 < w.held {
-        return Advanced::Broken;
+        return None;
     }
     if !is_unset(w, id) {
-        return Advanced::Broken;
+        return None;
     }
     if 0 < w.picking {
-        return Advanced::Broken;
+        return None;
     }
-    Advanced::Kept(ruled(w, id))
+    Some(ruled(w, id))
 }
 
 // The instruction with this code byte and operand keeps soundness, or breaks it: one match on the code byte. Constants are in
 // signed 32-bit range, since operands are below 2 ^ 32.
-pub fn advance(code: u8, n: u64, w: Walk) -> Advanced
+pub fn advance(code: u8, n: u64, w: Walk) -> Option<Walk>
     requires { (Small w) × (n < 2 ^ 32) }
     ensures result_value { advanced_known result ≡ advance_by (instruction_of code n) (known_of w) }
     ensures small_after { SmallAfter result }
@@ -346,6 +340,6 @@ pub fn advance(code: u8, n: u64, w: Walk) -> Advanced
         22 => settle(w, n),
         24 => pick(w, RISING, n),
         25 => pick(w, FALLING, n),
-        _ => Advanced::Broken,
+        _ => None,
     }
 }

@@ -7,15 +7,7 @@ ghost use Rattle.checker.specs.Inner.Walk.{Small};
 ghost use Rattle.checker.specs.Inner.Stretches.{with_sort, LeadsTo, TakenBy};
 
 use crate::advance;
-use crate::advance::{Advanced, Walk};
-use bytecode::Single;
-
-// The walk and the place behind instructions; or the first of them breaks soundness or is a timer.
-#[derive(Clone, Copy)]
-pub enum Stretch {
-    Taken(Walk, usize),
-    Broken,
-}
+use crate::advance::Walk;
 
 fn wide(x: u8) -> u64
     ensures { result ≡ x }
@@ -94,41 +86,41 @@ fn operation_ahead(code: &[u8], at: usize, w: Walk) -> bool
     w.sorts % 2 == advance::NUMBER
 }
 
-// The instruction at a place, if it is no timer. Only `single` calls it, so that it is compiled into the walk.
-fn read(code: &[u8], at: usize) -> Single
+// The instruction at a place, if it is no timer: its code byte, its operand (0 where it has none) and the place behind. Only `single` calls it, so that it is compiled into the walk.
+fn read(code: &[u8], at: usize) -> Option<(u8, u64, usize)>
     ensures result_value { single_read result ≡ fetch_one code.now at }
     ensures single_within { SingleWithin (length code.now) at result }
 {
     if code.len() <= at {
-        return Single::Malformed;
+        return None;
     }
     let byte = code[at];
     let behind = at + 1;
     if bytecode::has_operand(byte) {
-        let leb128::Unsigned::Number(n, next) = leb128::unsigned_at(code, behind) else {
-            return Single::Malformed;
+        let Some((n, next)) = leb128::unsigned_at(code, behind) else {
+            return None;
         };
-        return Single::Instruction(byte, n, next);
+        return Some((byte, n, next));
     }
-    Single::Instruction(byte, 0, behind)
+    Some((byte, 0, behind))
 }
 
-// One instruction.
-fn single(code: &[u8], at: usize, w: Walk) -> Stretch
+// One instruction: the walk and the place behind it; or it breaks soundness or is a timer.
+fn single(code: &[u8], at: usize, w: Walk) -> Option<(Walk, usize)>
     requires { (Small w) × (at < length code.now) }
     ensures { TakenBy code.now at w result }
 {
-    let Single::Instruction(byte, n, next) = read(code, at) else {
-        return Stretch::Broken;
+    let Some((byte, n, next)) = read(code, at) else {
+        return None;
     };
-    let Advanced::Kept(k) = advance::advance(byte, n, w) else {
-        return Stretch::Broken;
+    let Some(k) = advance::advance(byte, n, w) else {
+        return None;
     };
-    Stretch::Taken(k, next)
+    Some((k, next))
 }
 
-// The instructions at a place inside the code: those that stand together, else one.
-pub fn ahead(code: &[u8], at: usize, w: Walk) -> Stretch
+// The same of the instructions at a place inside the code: those that stand together, else one.
+pub fn ahead(code: &[u8], at: usize, w: Walk) -> Option<(Walk, usize)>
     requires { (Small w) × (at < length code.now) }
     ensures { TakenBy code.now at w result }
 {
@@ -136,10 +128,10 @@ pub fn ahead(code: &[u8], at: usize, w: Walk) -> Stretch
         let mut k = w;
         k.held = w.held + 1;
         k.sorts = w.sorts * 2 + advance::TRUTH;
-        return Stretch::Taken(k, at + 5);
+        return Some((k, at + 5));
     }
     if operation_ahead(code, at, w) {
-        return Stretch::Taken(w, at + 3);
+        return Some((w, at + 3));
     }
     single(code, at, w)
 }

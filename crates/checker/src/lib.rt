@@ -10,7 +10,6 @@ ghost use Rattle.checker.specs.Inner.Surveys.{ReadHeader};
 ghost use Rattle.checker.specs.Results.{CheckedWithin, SurveyedBy, Judges, VerdictWithin};
 
 use advance::Walk;
-use ahead::Stretch;
 use limits::Refusal;
 
 pub mod advance;
@@ -67,7 +66,7 @@ pub fn walk_from(code: &[u8], from: usize, first: Walk) -> Verdict
     let mut at = from;
     let mut w = first;
     while at < code.len() {
-        let Stretch::Taken(k, next) = ahead::ahead(code, at, w) else {
+        let Some((k, next)) = ahead::ahead(code, at, w) else {
             if code[at] == bytecode::opcode::TIMER {
                 return Verdict::Timed;
             }
@@ -114,8 +113,8 @@ pub fn survey(image: &[u8]) -> Result<Surveyed, Refusal>
     let mut high = [0i32; 1];
     let mut start = [0i32; 1];
     match bytecode::header(image, &mut low, &mut high, &mut start) {
-        bytecode::Headed::Broken(place) => Err(Refusal::BrokenImage(place)),
-        bytecode::Headed::Header(inputs, names, place) => survey_code(image, inputs, names, place),
+        Err(place) => Err(Refusal::BrokenImage(place)),
+        Ok((inputs, names, place)) => survey_code(image, inputs, names, place),
     }
 }
 

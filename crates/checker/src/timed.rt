@@ -11,7 +11,7 @@ ghost use Rattle.checker.specs.Results.{CheckedWithin, SurveyedBy};
 ghost use Rattle.checker.specs.Inner.Walk.{known_of, advanced_known, advance_by, Small, SmallAfter};
 ghost use Rattle.checker.specs.Inner.Timed.{RangesStand, LastBy, PlainBy, TimedBy, TurnsBy};
 
-use crate::advance::{Advanced, Walk};
+use crate::advance::Walk;
 use crate::{Surveyed, advance};
 use limits::Refusal;
 
@@ -22,15 +22,8 @@ pub struct Last {
     pub least: u64,
 }
 
-// The walk behind one instruction, and its place; or the instruction breaks soundness.
-#[derive(Clone, Copy)]
-pub enum Turned {
-    Taken(Walk, Last, usize),
-    Broken,
-}
-
 // As `advance::advance`, which has one caller so that it is compiled into the fast walk.
-fn advanced(code: u8, n: u64, w: Walk) -> Advanced
+fn advanced(code: u8, n: u64, w: Walk) -> Option<Walk>
     requires { (Small w) × (n < 2 ^ 32) }
     ensures result_value { advanced_known result ≡ advance_by (instruction_of code n) (known_of w) }
     ensures small_after { SmallAfter result }
@@ -51,7 +44,7 @@ fn advanced(code: u8, n: u64, w: Walk) -> Advanced
         22 => advance::settle(w, n),
         24 => advance::pick(w, advance::RISING, n),
         25 => advance::pick(w, advance::FALLING, n),
-        _ => Advanced::Broken,
+        _ => None,
     }
 }
 
@@ -116,16 +109,16 @@ fn suits(low: &[i32], high: &[i32], start: &[i32], last: Last, t: u64, w: u64, n
     last.least <= t
 }
 
-fn plain(code: u8, n: u64, next: usize, w: Walk) -> Turned
+// The walk behind an instruction of one operand at most, what is known of that instruction, and its place; or it breaks soundness.
+fn plain(code: u8, n: u64, next: usize, w: Walk) -> Option<(Walk, Last, usize)>
     requires { (Small w) × (n < 2 ^ 32) }
     ensures { PlainBy code n next w result }
 {
-    let Advanced::Kept(k) = advanced(code, n, w) else {
-        return Turned::Broken;
-    };
-    Turned::Taken(k, after(code, n), next)
+    let k = advanced(code, n, w)?;
+    Some((k, after(code, n), next))
 }
 
+// The same of a timer.
 fn timer(
     t: u64,
     v: u64,
@@ -136,24 +129,19 @@ fn timer(
     low: &[i32],
     high: &[i32],
     start: &[i32],
-) -> Turned
+) -> Option<(Walk, Last, usize)>
     requires { (Small w) × (t < 2 ^ 32) × (v < 2 ^ 32) }
     ensures { TimedBy t v n next w last low.now high.now start.now result }
 {
     if !suits(low, high, start, last, t, v, n) {
-        return Turned::Broken;
+        return None;
     }
-    let Advanced::Kept(k) = advance::timer(w, t) else {
-        return Turned::Broken;
+    let k = advance::timer(w, t)?;
+    let last = Last {
+        of: v + 1,
+        least: t + 1,
     };
-    Turned::Taken(
-        k,
-        Last {
-            of: v + 1,
-            least: t + 1,
-        },
-        next,
-    )
+    Some((k, last, next))
 }
 
 // One instruction.
@@ -165,14 +153,13 @@ fn turn(
     low: &[i32],
     high: &[i32],
     start: &[i32],
-) -> Turned
+) -> Option<(Walk, Last, usize)>
     requires { (Small w) × (at < length code.now) }
     ensures { TurnsBy code.now at w last low.now high.now start.now result }
 {
-    match bytecode::fetch(code, at) {
+    match bytecode::fetch(code, at)? {
         bytecode::Fetched::Instruction(byte, n, next) => plain(byte, n, next, w),
         bytecode::Fetched::Timer(t, v, n, next) => timer(t, v, n, next, w, last, low, high, start),
-        bytecode::Fetched::Malformed => Turned::Broken,
     }
 }
 
@@ -194,7 +181,7 @@ pub fn walk(
     let mut w = crate::initial(inputs, low.len());
     let mut last = Last { of: 0, least: 0 };
     while at < code.len() {
-        let Turned::Taken(k, l, next) = turn(code, at, w, last, low, high, start) else {
+        let Some((k, l, next)) = turn(code, at, w, last, low, high, start) else {
             return Err(Refusal::BrokenImage(base + at));
         };
         w = k;
@@ -220,8 +207,8 @@ fn survey_ranges(
     ensures surveyed_by { SurveyedBy image.now result }
 {
     match bytecode::header(image, low, high, start) {
-        bytecode::Headed::Broken(place) => Err(Refusal::BrokenImage(place)),
-        bytecode::Headed::Header(inputs, names, place) => {
+        Err(place) => Err(Refusal::BrokenImage(place)),
+        Ok((inputs, names, place)) => {
             let code = &image[place..];
             walk(
                 code,

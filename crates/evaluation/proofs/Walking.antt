@@ -14,20 +14,10 @@ use Rattle.semantics.specs.Program.{Condition}
 use Rattle.semantics.specs.Formula.{State, Trace, eval_c}
 use Rattle.watching.specs.Watching.{TracePlace, places_from, places_of, is_yes, implied, over_places, over_pairs, first_no, first_failure}
 use Rattle.semantics.specs.Shape.{states_of}
-use Rattle.evaluation.specs.declared.Truth.{Truth}
-use Rattle.evaluation.specs.declared.Truth.TheVariants.{Yes, No, Fault}
+use Rattle.std.specs.Prelude.{Option}
 use Rattle.evaluation.specs.Conditions.{ConditionCode, Tells}
 
 -- ---- answers
-
-pub yes_told : {t : Truth} → t ≡ Yes → (o : Outcome Bool) → Tells t o → o ≡ ok true
-yes_told e o h = subst (λ (u : Truth). Tells u o) e h
-
-pub no_told : {t : Truth} → t ≡ No → (o : Outcome Bool) → Tells t o → o ≡ ok false
-no_told e o h = subst (λ (u : Truth). Tells u o) e h
-
-pub fault_told : {t : Truth} → t ≡ Fault → (o : Outcome Bool) → Tells t o → (k : ℕ) × (o ≡ refusal k)
-fault_told e o h = subst (λ (u : Truth). Tells u o) e h
 
 pub after_yes : (p : Outcome Bool) → is_yes p ≡ is_yes (implied (ok true) p)
 after_yes (ok b) = refl
@@ -42,7 +32,7 @@ pub state_length_lem : (names : ℕ) (cells : List ℤ) (at : ℕ) → at + name
 state_length_lem names cells at h = length-take-le names (drop at cells) (rw length-drop (omega arith))
 
 -- what `evaluate` says of two parts of the trace
-pub at_place : (code : List ℕ) (cells : List ℤ) (names before at : ℕ) (r : Truth) → before + names ≤ length cells → at + names ≤ length cells
+pub at_place : (code : List ℕ) (cells : List ℤ) (names before at : ℕ) (r : Option Bool) → before + names ≤ length cells → at + names ≤ length cells
     → ((c : Condition) → ConditionCode c (length (take (at + names - at) (drop at cells))) code → length (take (before + names - before) (drop before cells)) ≡ length (take (at + names - at) (drop at cells))
     → Tells r (eval_c (take (before + names - before) (drop before cells)) (take (at + names - at) (drop at cells)) c))
     → (c : Condition) → ConditionCode c names code → Tells r (eval_c (state_at names cells before) (state_at names cells at) c)
@@ -131,13 +121,13 @@ abbrev pub place : State → State → TracePlace
 place s t = record { before = s; here = t }
 
 -- the first condition's answer at the place before, and what is left
-pub record Carried (cells : List ℤ) (names places n before at left : ℕ) (a : Truth) (c d : Condition) : Type 0 where
+pub record Carried (cells : List ℤ) (names places n before at left : ℕ) (a : Option Bool) (c d : Condition) : Type 0 where
   pub ago : State
   pub told : Tells a (eval_c ago (state_at names cells before) c)
   pub same : first_failure (record { first = c; later = some d }) (places_of (states_of places names cells))
       ≡ first_no n (over_pairs c d (place ago (state_at names cells before)) (places_from (state_at names cells before) (states_of left names (drop at cells))))
 
-pub record Pairs (first later : List ℕ) (cells : List ℤ) (names places : ℕ) (vals₀ vals : List ℤ) (a : Truth) (n before at : ℕ) : Type 0 where
+pub record Pairs (first later : List ℕ) (cells : List ℤ) (names places : ℕ) (vals₀ vals : List ℤ) (a : Option Bool) (n before at : ℕ) : Type 0 where
   pub places_left : Left names places (length cells) n before at
   pub deep : length vals ≡ length vals₀
   pub room : 40 ≤ length vals
@@ -157,7 +147,7 @@ pub start-inside : (names places size : ℕ) → places * names ≡ size → (pl
 start-inside names zero size e h = absurd (h refl)
 start-inside names (suc m) size e h = omega (arith, suc-mul m names)
 
-pub pairs_begin : (first later : List ℕ) (cells : List ℤ) (names places : ℕ) (vals : List ℤ) (a : Truth) → places * names ≡ length cells → (places ≡ 0 → ⊥) → 40 ≤ length vals
+pub pairs_begin : (first later : List ℕ) (cells : List ℤ) (names places : ℕ) (vals : List ℤ) (a : Option Bool) → places * names ≡ length cells → (places ≡ 0 → ⊥) → 40 ≤ length vals
     → ((c : Condition) → ConditionCode c names first → Tells a (eval_c (state_at names cells 0) (state_at names cells 0) c)) → Pairs first later cells names places vals vals a 1 0 names
 pairs_begin first later cells names zero vals a e h r t = absurd (h refl)
 pairs_begin first later cells names (suc m) vals a e h r t =
@@ -168,7 +158,7 @@ pairs_begin first later cells names (suc m) vals a e h r t =
       goes = λ c d x y. record { ago = take names cells; told = t c x; same = pairs_first c d names m cells };
     }
 
-module _ {first later : List ℕ} {cells : List ℤ} {names places : ℕ} {vals₀ vals : List ℤ} {a : Truth} {n before at : ℕ} (p : Pairs first later cells names places vals₀ vals a n before at)
+module _ {first later : List ℕ} {cells : List ℤ} {names places : ℕ} {vals₀ vals : List ℤ} {a : Option Bool} {n before at : ℕ} (p : Pairs first later cells names places vals₀ vals a n before at)
     (c d : Condition) (x : ConditionCode c names first) (y : ConditionCode d names later) where
   pub pairs_end : places ≤ n → none ≡ first_failure (record { first = c; later = some d }) (places_of (states_of places names cells))
   pairs_end h =
@@ -189,6 +179,6 @@ module _ {first later : List ℕ} {cells : List ℤ} {names places : ℕ} {vals�
     pub pairs_fail : b ≡ false → some n ≡ first_failure (record { first = c; later = some d }) (places_of (states_of places names cells))
     pairs_fail f = sym (pair_decides ∙ rw f)
 
-    pub pairs_go : b ≡ true → (a₁ : Truth) → Tells a₁ (eval_c (state_at names cells before) (state_at names cells at) c)
+    pub pairs_go : b ≡ true → (a₁ : Option Bool) → Tells a₁ (eval_c (state_at names cells before) (state_at names cells at) c)
         → Carried cells names places (n + 1) at (at + names) (one_more p.places_left h).0 a₁ c d
     pairs_go f a₁ t = record { ago = state_at names cells before; told = t; same = pair_decides ∙ rw f }

@@ -19,41 +19,25 @@ ghost use Rattle.evaluation.specs.Conditions.{ConditionCode, Tells};
 ghost use Rattle.evaluation.specs.Walks.{failed_at};
 ghost use Rattle.evaluation.specs.Inner.Instructions.{CalculatesOr};
 
-use bytecode::Single;
 use machine::{Registers, Stepped};
 
-// Whether a condition holds, or meets 14.
-#[derive(Clone, Copy)]
-pub enum Truth {
-    Yes,
-    No,
-    Fault,
-}
-
-// The place where a watch first failed.
-#[derive(Clone, Copy)]
-pub enum Failed {
-    At(usize),
-    Never,
-}
-
-// The instruction at a place, if it is no timer. Only `evaluate` calls it, so that it is compiled into the loop.
-fn read(code: &[u8], at: usize) -> Single
+// The instruction at a place, if it is no timer: its code byte, its operand (0 where it has none) and the place behind. Only `evaluate` calls it, so that it is compiled into the loop.
+fn read(code: &[u8], at: usize) -> Option<(u8, u64, usize)>
     ensures result_value { single_read result ≡ fetch_one code.now at }
     ensures single_within { SingleWithin (length code.now) at result }
 {
     if code.len() <= at {
-        return Single::Malformed;
+        return None;
     }
     let byte = code[at];
     let behind = at + 1;
     if bytecode::has_operand(byte) {
-        let leb128::Unsigned::Number(n, next) = leb128::unsigned_at(code, behind) else {
-            return Single::Malformed;
+        let Some((n, next)) = leb128::unsigned_at(code, behind) else {
+            return None;
         };
-        return Single::Instruction(byte, n, next);
+        return Some((byte, n, next));
     }
-    Single::Instruction(byte, 0, behind)
+    Some((byte, 0, behind))
 }
 
 // One instruction of a condition; any other is refused.
@@ -80,22 +64,19 @@ fn work(prev: &[i32], cur: &[i32], vals: &mut [i32], m: Registers, code: u8, n: 
 }
 
 // The value held at the end of a condition's code.
-fn answer(vals: &[i32], held: usize) -> Truth
+fn answer(vals: &[i32], held: usize) -> Option<bool>
     requires { (stack_limit ≤ length vals.now) × (held ≤ stack_limit) }
     ensures { (b : Bool) → held_of vals.now held ≡ bit b ∷ [] → Tells result (ok b) }
 {
     if held == 0 {
-        return Truth::Fault;
+        return None;
     }
     let top = held - 1;
-    if machine::values::is_yes(vals[top]) {
-        return Truth::Yes;
-    }
-    Truth::No
+    Some(machine::values::is_yes(vals[top]))
 }
 
-// The condition whose code is lent, with these previous and current values.
-pub fn evaluate(code: &[u8], prev: &[i32], cur: &[i32], vals: &mut [i32]) -> Truth
+// Whether the condition holds whose code is lent, with these previous and current values; or it meets 14.
+pub fn evaluate(code: &[u8], prev: &[i32], cur: &[i32], vals: &mut [i32]) -> Option<bool>
     requires { stack_limit ≤ length vals.old }
     ensures { (c : Condition) → ConditionCode c (length cur.now) code.now → length prev.now ≡ length cur.now
         → Tells result (eval_c prev.now cur.now c) }
@@ -107,11 +88,11 @@ pub fn evaluate(code: &[u8], prev: &[i32], cur: &[i32], vals: &mut [i32]) -> Tru
     };
     let mut at: usize = 0;
     while at < code.len() {
-        let Single::Instruction(op, n, next) = read(code, at) else {
-            return Truth::Fault;
+        let Some((op, n, next)) = read(code, at) else {
+            return None;
         };
         let Stepped::Next(t) = work(prev, cur, vals, k, op, n) else {
-            return Truth::Fault;
+            return None;
         };
         k = t;
         at = next;
@@ -128,7 +109,7 @@ fn evaluate_at(
     before: usize,
     at: usize,
     vals: &mut [i32],
-) -> Truth
+) -> Option<bool>
     requires stack_limit_in_bounds { stack_limit ≤ length vals.old }
     requires names_in_bounds { (before + names ≤ length trace.now) × (at + names ≤ length trace.now) }
     ensures { (c : Condition) → ConditionCode c names code.now
@@ -140,45 +121,37 @@ fn evaluate_at(
 }
 
 // A fault is no yes.
-fn holds(t: Truth) -> bool
+fn holds(t: Option<bool>) -> bool
     ensures { (o : Outcome Bool) → Tells t o → result ≡ is_yes o }
 {
-    match t {
-        Truth::Yes => true,
-        Truth::No => false,
-        Truth::Fault => false,
-    }
+    t.unwrap_or(false)
 }
 
-fn is_fault(t: Truth) -> bool
+fn is_fault(t: Option<bool>) -> bool
     ensures { (o : Outcome Bool) → Tells t o → not result ≡ is_yes (implied (ok false) o) }
 {
-    match t {
-        Truth::Yes => false,
-        Truth::No => false,
-        Truth::Fault => true,
-    }
+    t.is_none()
 }
 
 // A pair's two conditions: a fault of either fails it.
-fn is_kept(a: Truth, b: Truth) -> bool
+fn is_kept(a: Option<bool>, b: Option<bool>) -> bool
     ensures { (o p : Outcome Bool) → Tells a o → Tells b p → result ≡ is_yes (implied o p) }
 {
     match a {
-        Truth::Yes => holds(b),
-        Truth::No => !is_fault(b),
-        Truth::Fault => false,
+        Some(true) => holds(b),
+        Some(false) => !is_fault(b),
+        None => false,
     }
 }
 
-// `G([c])`: the first place where the condition does not hold. By place: `chunks_exact` asks for states that are not empty.
+// `G([c])`: the first place where the condition does not hold, if there is one. By place: `chunks_exact` asks for states that are not empty.
 pub fn walk_alone(
     code: &[u8],
     trace: &[i32],
     names: usize,
     places: usize,
     vals: &mut [i32],
-) -> Failed
+) -> Option<usize>
     requires { (stack_limit ≤ length vals.old) × (places * names ≡ length trace.now) }
     ensures { (c : Condition) → ConditionCode c names code.now
         → failed_at result ≡ first_failure (record { first = c; later = none }) (places_of (states_of places names trace.now)) }
@@ -188,12 +161,12 @@ pub fn walk_alone(
     for n in 0..places {
         let t = evaluate_at(code, trace, names, before, at, vals);
         if !holds(t) {
-            return Failed::At(n);
+            return Some(n);
         }
         before = at;
         at += names;
     }
-    Failed::Never
+    None
 }
 
 // `G([c] -> X([d]))`: the later place of the first pair that does not hold. The first condition's answer is carried, so that one loop for
@@ -205,13 +178,13 @@ pub fn walk_paired(
     names: usize,
     places: usize,
     vals: &mut [i32],
-) -> Failed
+) -> Option<usize>
     requires { (stack_limit ≤ length vals.old) × (places * names ≡ length trace.now) }
     ensures { (c d : Condition) → ConditionCode c names first.now → ConditionCode d names later.now
         → failed_at result ≡ first_failure (record { first = c; later = some d }) (places_of (states_of places names trace.now)) }
 {
     if places == 0 {
-        return Failed::Never;
+        return None;
     }
     let mut a = evaluate_at(first, trace, names, 0, 0, vals);
     let mut before: usize = 0;
@@ -219,11 +192,11 @@ pub fn walk_paired(
     for n in 1..places {
         let b = evaluate_at(later, trace, names, before, at, vals);
         if !is_kept(a, b) {
-            return Failed::At(n);
+            return Some(n);
         }
         a = evaluate_at(first, trace, names, before, at, vals);
         before = at;
         at += names;
     }
-    Failed::Never
+    None
 }

@@ -1,4 +1,5 @@
 -- Instructions that put a value on top or work on those on top, one after the other. Assumes nothing.
+use Rattle.std.specs.Prelude.{Some, None}
 use Prim.Native.Nat.{ℕ, ◌+◌, ◌≤◌, ◌<◌}
 use native.Mathlib.Omega.{arith}
 use mathlib.Core.Path.{◌≡◌, refl, sym, ap, subst, ◌∙◌}
@@ -16,9 +17,7 @@ use Rattle.bytecode.specs.Check.{Known, known, guard, advance}
 use Rattle.bytecode.specs.Signature.{truth}
 use Rattle.bytecode.proofs.Codes.{operation_of_lem, comparison_of_lem, no_operand}
 use Rattle.checker.specs.declared.advance.Walk.{Walk}
-use Rattle.checker.specs.declared.advance.Advanced.{Advanced}
-use Rattle.checker.specs.declared.advance.Advanced.TheVariants.{Kept}
-use Rattle.checker.specs.Inner.Walk.{known_of, only, sorts_of, open_of, picks_of, advanced_known, Small, SmallAfter}
+use Rattle.checker.specs.Inner.Walk.{Advanced, known_of, only, sorts_of, open_of, picks_of, advanced_known, Small, SmallAfter}
 use Rattle.checker.proofs.Steps.{comparison_is, gate_is, only_one}
 use Rattle.machine.specs.declared.Stepped.TheVariants as S
 use Rattle.machine.specs.Step.{machine, perform}
@@ -28,11 +27,9 @@ use Rattle.machine.proofs.Codes.{truth_comparison, related_same}
 use Rattle.machine.proofs.Stack.{held_top}
 use Rattle.fused.specs.declared.Progress.{Progress}
 use Rattle.fused.specs.declared.Moved.TheVariants as M
-use Rattle.fused.specs.declared.act.Acted.{Acted}
-use Rattle.fused.specs.declared.act.Acted.TheVariants as A
 use Rattle.fused.specs.Inner.Passes.{Ready, Moves}
 use Rattle.fused.specs.Inner.Leaps.{Goes, lastly, first}
-use Rattle.fused.specs.Inner.Acts.{done_of, ActedBy, ActedOnce, AtHand, DoneBy, RelatedBy, StretchedBy, Shut, shut_of}
+use Rattle.fused.specs.Inner.Acts.{Acted, done_of, ActedBy, ActedOnce, AtHand, DoneBy, RelatedBy, StretchedBy, Shut, shut_of}
 use Rattle.fused.proofs.Joining.{arrives, alone}
 use Rattle.fused.proofs.Fusing.{Fusing, goes_far, goes_ready, fusing_leaps}
 
@@ -40,7 +37,7 @@ use Rattle.fused.proofs.Fusing.{Fusing, goes_far, goes_ready, fusing_leaps}
 
 -- the walk behind it, what is held behind it, and that the machine finds the same
 pub done_acts : {code : List ℕ} {low high prev cur vals : List ℤ} {b : Progress} {i : Instruction} {next : ℕ} (h : AtHand code low high prev cur vals b i next) (k : Walk) (vals₁ : List ℤ) (a : Advanced)
-    → a ≡ Kept k → advanced_known a ≡ advance i (known_of b.walk) → SmallAfter a → (held : ℕ)
+    → a ≡ Some k → advanced_known a ≡ advance i (known_of b.walk) → SmallAfter a → (held : ℕ)
     → ((ns : Setting) → RangesIn ns.ranges low high → ok (machine false b.picked (held_of vals₁ held) cur) ≡ perform ns prev i b.picked (held_of vals b.walk.held) cur)
     → (r : Acted) → r ≡ done_of b k next → ActedOnce code low high prev b vals cur vals₁ r
 done_acts {code} {low} {high} {prev} {cur} {vals} {b} {i} {next} h k vals₁ a is e small held acts r q =
@@ -50,14 +47,14 @@ done_acts {code} {low} {high} {prev} {cur} {vals} {b} {i} {next} h k vals₁ a i
 
 -- one is as many as it is
 pub once_acts : (code : List ℕ) (low high prev : List ℤ) (b : Progress) (vals cur vals₁ : List ℤ) (r : Acted) → ActedOnce code low high prev b vals cur vals₁ r → ActedBy code low high prev b vals cur vals₁ r
-once_acts code low high prev b vals cur vals₁ (A.On k n) h = (h.1, subst (λ (m : ℕ). Goes code low high prev m b vals cur k vals₁ cur) (sym h.0) h.2)
-once_acts code low high prev b vals cur vals₁ A.Other h = h
+once_acts code low high prev b vals cur vals₁ (Some (k, n)) h = (h.1, subst (λ (m : ℕ). Goes code low high prev m b vals cur k vals₁ cur) (sym h.0) h.2)
+once_acts code low high prev b vals cur vals₁ None h = h
 
 module _ (code : List ℕ) (low high prev : List ℤ) (b : Progress) (vals cur vals₁ : List ℤ) (r : Acted) (h : ActedOnce code low high prev b vals cur vals₁ r) where
-  pub once_on : (k : Progress) (n : ℕ) → r ≡ A.On k n → (k.passing ≡ false) × Goes code low high prev 1 b vals cur k vals₁ cur
+  pub once_on : (k : Progress) (n : ℕ) → r ≡ Some (k, n) → (k.passing ≡ false) × Goes code low high prev 1 b vals cur k vals₁ cur
   once_on k n e = let o = subst (λ (x : Acted). ActedOnce code low high prev b vals cur vals₁ x) e h in (o.1, o.2)
 
-  pub once_none : r ≡ A.Other → vals₁ ≡ vals
+  pub once_none : r ≡ None → vals₁ ≡ vals
   once_none e = subst (λ (x : Acted). ActedOnce code low high prev b vals cur vals₁ x) e h
 
 -- a code byte without an operand is at hand
@@ -87,22 +84,18 @@ goes_on_lem {code} {low} {high} {prev} _ _ _ _ _ _ _ (first n b vals cur vals₃
     subst (λ (s : ℕ). Goes code low high prev s b vals cur k vals₂ cur₂) e
     (first (n + j) b vals cur vals₃ cur₃ l vals₂ cur₂ k o deeper wider (goes_on_lem n l vals₃ cur₃ m vals₁ cur₁ rest (deep ∙ sym deeper) (wide ∙ sym wider) j k vals₂ cur₂ g))
 
-pub acted : {code : List ℕ} {low high prev : List ℤ} {b : Progress} {vals cur vals₁ : List ℤ} (r : Acted) (k : Progress) (n : ℕ) → ActedBy code low high prev b vals cur vals₁ r → r ≡ A.On k n
-    → (k.passing ≡ false) × Goes code low high prev n b vals cur k vals₁ cur
-acted {code} {low} {high} {prev} {b} {vals} {cur} {vals₁} r k n h e = subst (λ (x : Acted). ActedBy code low high prev b vals cur vals₁ x) e h
-
 -- one, and another behind it
 pub then_acts : {code : List ℕ} {low high prev : List ℤ} {b : Progress} {vals cur vals₁ vals₂ : List ℤ} (p q : Progress) (j : ℕ) (r : Acted) → (p.passing ≡ false) × Goes code low high prev 1 b vals cur p vals₁ cur → length vals₁ ≡ length vals
-    → ActedOnce code low high prev p vals₁ cur vals₂ r → r ≡ A.On q j → ActedBy code low high prev b vals cur vals₂ (A.On q 2)
+    → ActedOnce code low high prev p vals₁ cur vals₂ r → r ≡ Some (q, j) → ActedBy code low high prev b vals cur vals₂ (Some (q, 2))
 then_acts {code} {low} {high} {prev} {b} {vals} {cur} {vals₁} {vals₂} p q j r g deep h e =
     let o = once_on code low high prev p vals₁ cur vals₂ r h q j e in
     (o.0, goes_on_lem 1 b vals cur p vals₁ cur g.1 deep refl 1 q vals₂ cur o.1)
 
 -- one, and none behind it
 pub then_stays : {code : List ℕ} {low high prev : List ℤ} {b : Progress} {vals cur vals₁ vals₂ : List ℤ} (p : Progress) (r : Acted) → (p.passing ≡ false) × Goes code low high prev 1 b vals cur p vals₁ cur
-    → ActedOnce code low high prev p vals₁ cur vals₂ r → r ≡ A.Other → ActedBy code low high prev b vals cur vals₂ (A.On p 1)
+    → ActedOnce code low high prev p vals₁ cur vals₂ r → r ≡ None → ActedBy code low high prev b vals cur vals₂ (Some (p, 1))
 then_stays {code} {low} {high} {prev} {b} {vals} {cur} {vals₁} {vals₂} p r g h e =
-    subst (λ (l : List ℤ). ActedBy code low high prev b vals cur l (A.On p 1)) (sym (once_none code low high prev p vals₁ cur vals₂ r h e)) g
+    subst (λ (l : List ℤ). ActedBy code low high prev b vals cur l (Some (p, 1))) (sym (once_none code low high prev p vals₁ cur vals₂ r h e)) g
 
 module _ {code : List ℕ} {low high prev : List ℤ} {b : Progress} {vals cur : List ℤ} where
   pub stretch_begins : Ready low high prev cur vals b → b.passing ≡ false → StretchedBy code low high prev b vals cur 0 b vals
@@ -136,7 +129,7 @@ module _ {code : List ℕ} {low high prev : List ℤ} {b : Progress} {vals cur :
         by (inr h) = goes_on_lem n b vals cur k vals₁ cur h s.deep refl j q vals₂ cur g.1
 
     -- or none
-    pub stretch_stops : (vals₂ : List ℤ) (r : Acted) → ActedBy code low high prev k vals₁ cur vals₂ r → r ≡ A.Other → StretchedBy code low high prev b vals cur n k vals₂
+    pub stretch_stops : (vals₂ : List ℤ) (r : Acted) → ActedBy code low high prev k vals₁ cur vals₂ r → r ≡ None → StretchedBy code low high prev b vals cur n k vals₂
     stretch_stops vals₂ r h e =
         let same : vals₂ ≡ vals₁ = subst (λ (x : Acted). ActedBy code low high prev k vals₁ cur vals₂ x) e h in
         subst (λ (l : List ℤ). StretchedBy code low high prev b vals cur n k l) (sym same) s
@@ -175,6 +168,6 @@ module _ {code : List ℕ} {low high prev cur vals : List ℤ} {b : Progress} (r
   unfolding instruction_of has_operand
   shut_goes =
       lastly b vals cur vals cur (shut_of b)
-      (arrives r go code (b.at + 1) (shut_of b).walk vals cur (some gate) (alone code b inside 19 s.is refl) (omega arith) (Kept (shut_of b).walk) refl shut-known shut_small
+      (arrives r go code (b.at + 1) (shut_of b).walk vals cur (some gate) (alone code b inside 19 s.is refl) (omega arith) (Some (shut_of b).walk) refl shut-known shut_small
       (S.Next (record { held = 0; picked = b.picked; passing = true }))
       (λ ns q. rw (s.one, held_top vals 1 (omega arith), s.no)) (M.On (shut_of b)) refl)

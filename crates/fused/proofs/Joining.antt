@@ -1,4 +1,5 @@
 -- The walk and the machine hold as many values; what one instruction does to both. Assumes nothing.
+use Rattle.std.specs.Prelude.{Some, None}
 use Prim.Native.Nat.{ℕ, ◌+◌, ◌≤◌, ◌<◌}
 use native.Mathlib.Omega.{arith}
 use mathlib.Core.Path.{◌≡◌, refl, sym, ap, subst, ◌∙◌}
@@ -19,10 +20,8 @@ use Rattle.bytecode.specs.Signature.{signature}
 use Rattle.bytecode.proofs.Timeless.{TimelessIn, one_timeless}
 use Rattle.bytecode.proofs.Fetching.{fetch_alone, fetch_number, fetch_malformed}
 use Rattle.checker.specs.declared.advance.Walk.{Walk}
-use Rattle.checker.specs.declared.advance.Advanced.{Advanced}
-use Rattle.checker.specs.declared.advance.Advanced.TheVariants.{Kept, Broken}
 use Rattle.arith.proofs.Flags.{length_flags}
-use Rattle.checker.specs.Inner.Walk.{known_of, open_of, advanced_known, advance_by, SmallAfter}
+use Rattle.checker.specs.Inner.Walk.{Advanced, known_of, open_of, advanced_known, advance_by, SmallAfter}
 use Rattle.checker.proofs.Bits.{length_sorts}
 use Rattle.checker.proofs.Walking.{judges_malformed, judges_broken}
 use Rattle.machine.specs.declared.Registers.{Registers}
@@ -119,7 +118,7 @@ module _ {low high prev cur vals : List ℤ} {b : Progress} (r : Ready low high 
           record { stride = o; acted = λ ns q. sym (a ns q ∙ ap (λ (m : Machine). step ns prev o.instruction m) not_passing) }
 
     -- read as this instruction, with this place behind it
-    pub arrives : (o : Option Instruction) → fetch_one code b.at ≡ decoded o next → next ≤ length code → (a : Advanced) → a ≡ Kept k → advanced_known a ≡ advance_by o (known_of b.walk) → SmallAfter a
+    pub arrives : (o : Option Instruction) → fetch_one code b.at ≡ decoded o next → next ≤ length code → (a : Advanced) → a ≡ Some k → advanced_known a ≡ advance_by o (known_of b.walk) → SmallAfter a
         → (s : Stepped) → ((ns : Setting) → RangesIn ns.ranges low high → step_outcome s vals₁ cur₁ ≡ stepped ns prev o (machine_of doing vals cur))
         → (m : Moved) → m ≡ moved_of k next s → MovesBy code low high prev b vals cur vals₁ cur₁ m
     arrives none f inside a is e small s acts m q = none≢some _ (sym e ∙ ap advanced_known is)
@@ -129,7 +128,7 @@ module _ {low high prev cur vals : List ℤ} {b : Progress} (r : Ready low high 
 -- ---- the instruction at hand
 
 module _ (code : List ℕ) (b : Progress) (inside : b.at < length code) where
-  pub breaks : (o : Option Instruction) (next : ℕ) → fetch_one code b.at ≡ decoded o next → (a : Advanced) → a ≡ Broken → advanced_known a ≡ advance_by o (known_of b.walk) → BreaksAt code b
+  pub breaks : (o : Option Instruction) (next : ℕ) → fetch_one code b.at ≡ decoded o next → (a : Advanced) → a ≡ None → advanced_known a ≡ advance_by o (known_of b.walk) → BreaksAt code b
   breaks o next f a is e = judges_broken code b.at (known_of b.walk) inside o next f (sym e ∙ ap advanced_known is)
 
   -- whatever its operand, the code byte breaks

@@ -1,4 +1,5 @@
 -- Instructions that stand ahead together: walk and machine go as many steps. Assumes nothing.
+use Rattle.std.specs.Prelude.{Some, None}
 use Prim.Native.Nat.{ℕ, ◌+◌, ◌*◌, ◌≤◌, ◌<◌}
 use native.Mathlib.Omega.{arith}
 use mathlib.Core.Path.{◌≡◌, refl, sym, subst, ◌∙◌}
@@ -18,7 +19,6 @@ use Rattle.bytecode.specs.Check.{advance}
 use Rattle.bytecode.proofs.Codes.{operation_of_lem, comparison_of_lem, no_operand}
 use Rattle.bytecode.proofs.Fetching.{fetch_alone}
 use Rattle.checker.specs.declared.advance.Walk.{Walk}
-use Rattle.checker.specs.declared.advance.Advanced.TheVariants.{Kept}
 use Rattle.checker.specs.Inner.Walk.{known_of, pushed, Small}
 use Rattle.checker.specs.Inner.Stretches.{with_number, with_sort}
 use Rattle.checker.proofs.Steps.{operation-is, comparison_is, constant_is}
@@ -35,10 +35,8 @@ use Rattle.fused.specs.declared.Progress.{Progress}
 use Rattle.fused.specs.declared.Moved.{Moved}
 use Rattle.fused.specs.declared.Moved.TheVariants as M
 use Rattle.fused.specs.declared.ahead.Leap.{Leap}
-use Rattle.fused.specs.declared.ahead.Seen.{Seen}
-use Rattle.fused.specs.declared.ahead.Seen.TheVariants as N
 use Rattle.fused.specs.Inner.Passes.{Ready, Moves, MovesBy}
-use Rattle.fused.specs.Inner.Leaps.{MadeOf, FoundBy, PairSeen, SeenBy, Goes, lastly, first, leap_of, LeapsBy}
+use Rattle.fused.specs.Inner.Leaps.{Seen, MadeOf, FoundBy, PairSeen, SeenBy, Goes, lastly, first, leap_of, LeapsBy}
 use Rattle.machine.proofs.Fetches.{short_fetch, second_is}
 use Rattle.fused.proofs.Joining.{arrives}
 
@@ -103,8 +101,8 @@ module _ (code : List ℕ) (prev cur : List ℤ) (at : ℕ) (w : Walk) (small : 
         }
 
     sees : (r : Seen) → FoundBy w (get_or code (at + 4) 0) x (unzigzag (get_or code (at + 3) 0)) r → SeenBy code prev cur at w r
-    sees (N.Value v sort) m = seen v sort m
-    sees N.Other m = tt
+    sees (Some (v, sort)) m = seen v sort m
+    sees None m = tt
 
   pub previous_sees : get_or code at 0 ≡ 3 → (r : Seen) → FoundBy w (get_or code (at + 4) 0) (value_at prev (get_or code (at + 1) 0)) (unzigzag (get_or code (at + 3) 0)) r → SeenBy code prev cur at w r
   unfolding instruction_of has_operand
@@ -158,7 +156,7 @@ module _ (code : List ℕ) {low high prev cur vals : List ℤ} {b : Progress} (r
 
   move_one : Moves code low high prev b vals cur vals_one cur one_on
   move_one =
-      arrives r go code (b.at + 2) (with_number b.walk) vals_one cur (some c.loading) c.first (omega (arith, c.inside)) (Kept (with_number b.walk)) refl
+      arrives r go code (b.at + 2) (with_number b.walk) vals_one cur (some c.loading) c.first (omega (arith, c.inside)) (Some (with_number b.walk)) refl
       (sym (c.admitted ∙ pushed_is b.walk (omega (arith, c.room)))) ready_one.small (S.Next (holding (b.walk.held + 1)))
       (λ ns q. push_put vals b.walk.held c.x b.picked cur (omega (arith, c.room)) r.room
       ∙ sym (c.loaded ns b.picked (held_of vals b.walk.held) (names_length ns.ranges low high q ∙ sym r.sized)))
@@ -166,7 +164,7 @@ module _ (code : List ℕ) {low high prev cur vals : List ℤ} {b : Progress} (r
 
   move_two : Moves code low high prev one_on vals_one cur vals_two cur two_on
   move_two =
-      arrives ready_one refl code (b.at + 4) (with_number (with_number b.walk)) vals_two cur (some (constant y)) c.second (omega (arith, c.inside)) (Kept (with_number (with_number b.walk))) refl
+      arrives ready_one refl code (b.at + 4) (with_number (with_number b.walk)) vals_two cur (some (constant y)) c.second (omega (arith, c.inside)) (Some (with_number (with_number b.walk))) refl
       (sym (constant_is (get_or code (b.at + 3) 0) (known_of (with_number b.walk)) (omega (arith, c.short)) ∙ pushed_is (with_number b.walk) (omega (arith, c.room)))) ready_two.small
       (S.Next (holding (b.walk.held + 1 + 1))) (λ ns q. push_put vals_one (b.walk.held + 1) y b.picked cur (omega (arith, c.room)) ready_one.room) (M.On two_on) refl
 
@@ -188,7 +186,7 @@ module _ (code : List ℕ) {low high prev cur vals : List ℤ} {b : Progress} (r
   move_three =
       let q : b.at + 4 + 1 ≡ b.at + 5 = omega arith in
       let third : fetch_one code (b.at + 4) ≡ got c.made.acting (b.at + 5) = fetch_alone code (b.at + 4) (omega (arith, c.inside)) c.made.alone ∙ rw (c.made.listed, q) in
-      arrives ready_two refl code (b.at + 5) (with_sort b.walk sort) vals_three cur (some c.made.acting) third c.inside (Kept (with_sort b.walk sort)) refl
+      arrives ready_two refl code (b.at + 5) (with_sort b.walk sort) vals_three cur (some c.made.acting) third c.inside (Some (with_sort b.walk sort)) refl
       (sym c.made.moved) sort_small (S.Next (holding (b.walk.held + 1))) (λ ns q. made_three ns) (M.On three_on) refl
 
   pub pair_leaps : Goes code low high prev 3 b vals cur three_on vals_three cur

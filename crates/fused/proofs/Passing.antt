@@ -1,4 +1,5 @@
 -- Instructions that are passed over. Assumes nothing.
+use Rattle.std.specs.Prelude.{Some, None}
 use Prim.Native.Nat.{ℕ, ◌+◌, ◌≤◌, ◌<◌}
 use native.Mathlib.Omega.{arith}
 use mathlib.Core.Path.{◌≡◌, refl, sym, ap, subst, ◌∙◌}
@@ -18,10 +19,8 @@ use Rattle.bytecode.proofs.Timeless.{one_timeless}
 use Rattle.bytecode.specs.Check.{Picks, known}
 use Rattle.bytecode.proofs.Soundness.{none≢some}
 use Rattle.bytecode.proofs.Codes.{comparison_of_lem, none_above, past}
-use Rattle.checker.specs.declared.advance.Advanced.{Advanced}
-use Rattle.checker.specs.declared.advance.Advanced.TheVariants.{Kept, Broken}
 use Rattle.checker.specs.declared.advance.Walk.{Walk}
-use Rattle.checker.specs.Inner.Walk.{sorts_of, open_of, picks_of, known_of, advanced_known, advance_by, SmallAfter}
+use Rattle.checker.specs.Inner.Walk.{Advanced, sorts_of, open_of, picks_of, known_of, advanced_known, advance_by, SmallAfter}
 use Rattle.checker.proofs.Steps.{one_none, two_none}
 use Rattle.checker.proofs.Walking.{judges_broken}
 use Rattle.machine.specs.Step.{machine, is_pick, step}
@@ -42,9 +41,9 @@ module _ (code : List ℕ) (b : Progress) (within : b.at < length code) where
   -- read as this instruction, with this place behind it
   by_walk : (o : Option Instruction) (next : ℕ) (p : Bool) → fetch_one code b.at ≡ decoded o next → next ≤ length code → GoesOn o p → (a : Advanced)
       → advanced_known a ≡ advance_by o (known_of b.walk) → SmallAfter a → PassesBy code b (passed_over b next p a)
-  by_walk o next p f i g Broken e s = judges_broken code b.at (known_of b.walk) within o next f (sym e)
-  by_walk none next p f i g (Kept k) e s = none≢some _ (sym e)
-  by_walk (some x) next p f i g (Kept k) e s = record { stride = record { instruction = x; fetched = f; inside = i; advanced = sym e; small = s }; same_picked = refl; passing_is = g }
+  by_walk o next p f i g None e s = judges_broken code b.at (known_of b.walk) within o next f (sym e)
+  by_walk none next p f i g (Some k) e s = none≢some _ (sym e)
+  by_walk (some x) next p f i g (Some k) e s = record { stride = record { instruction = x; fetched = f; inside = i; advanced = sym e; small = s }; same_picked = refl; passing_is = g }
 
   pub passes : (o : Option Instruction) (next : ℕ) (p : Bool) → fetch_one code b.at ≡ decoded o next → next ≤ length code → GoesOn o p → (a : Advanced)
       → advanced_known a ≡ advance_by o (known_of b.walk) → SmallAfter a → (m : Moved) → m ≡ passed_over b next p a → PassesBy code b m

@@ -1,4 +1,6 @@
 -- Instructions between a gate and its pick that are passed over together: as many steps of the walk and the machine. Assumes nothing.
+use Rattle.std.specs.Prelude.{Some, None}
+use Rattle.std.specs.Prelude as O
 use Prim.Native.Nat.{ℕ, ◌+◌, ◌*◌, ◌-◌, ◌≤◌, ◌<◌}
 use native.Mathlib.Omega.{arith}
 use mathlib.Core.Path.{◌≡◌, refl, sym, ap, subst, ◌∙◌}
@@ -19,9 +21,7 @@ use Rattle.bytecode.proofs.Fetching.{fetch_alone, fetch_number, number_within}
 use Rattle.bytecode.proofs.RoundTrip.{one_next}
 use Rattle.bytecode.proofs.Soundness.{none≢some}
 use Rattle.checker.specs.declared.advance.Walk.{Walk}
-use Rattle.checker.specs.declared.advance.Advanced.{Advanced}
-use Rattle.checker.specs.declared.advance.Advanced.TheVariants.{Kept}
-use Rattle.checker.specs.Inner.Walk.{known_of, open_of, pushed, advanced_known, advance_by, Small, SmallAfter}
+use Rattle.checker.specs.Inner.Walk.{Advanced, known_of, open_of, pushed, advanced_known, advance_by, Small, SmallAfter}
 use Rattle.checker.specs.Inner.Stretches.{with_number}
 use Rattle.checker.specs.Results.{BreaksUnlessTimed}
 use Rattle.checker.proofs.Bits.{join_low}
@@ -36,12 +36,8 @@ use Rattle.fused.specs.declared.Moved.{Moved}
 use Rattle.fused.specs.declared.Moved.TheVariants as M
 use Rattle.fused.specs.declared.ahead.Leap.{Leap}
 use Rattle.fused.specs.declared.ahead.Leap.TheVariants as L
-use Rattle.fused.specs.declared.ahead.Skipped.{Skipped}
-use Rattle.fused.specs.declared.ahead.Skipped.TheVariants as K
-use Rattle.fused.specs.declared.ahead.Settled.{Settled}
-use Rattle.fused.specs.declared.ahead.Settled.TheVariants as T
 use Rattle.fused.specs.Inner.Passes.{Ready, BreaksAt, Moves, PassesBy}
-use Rattle.fused.specs.Inner.Leaps.{with_held, Skips, SkippedBy, SkipsTo, stays, further, SettledBy, Goes, lastly, first, LeapsOver, LeapsFirst}
+use Rattle.fused.specs.Inner.Leaps.{with_held, Skips, SkipsTo, stays, further, SettledBy, Goes, lastly, first, LeapsOver, LeapsFirst}
 use Rattle.fused.proofs.Joining.{names_stay, arrives, with_operand}
 use Rattle.fused.proofs.Fusing.{moves_ready}
 use Rattle.fused.proofs.Passing.{open_breaks, over_moves_by}
@@ -106,9 +102,6 @@ module _ (w : Walk) (z : w.sorts ≡ 0) where
           no_pick = refl;
           same_gate = refl;
         }
-
-pub skipped : (code : List ℕ) (w : Walk) (held at : ℕ) (r : Skipped) (more next : ℕ) → SkippedBy code w held at r → r ≡ K.Over more next → Skips code (with_held w held) at (with_held w more) next
-skipped code w held at r more next s e = subst (λ (x : Skipped). SkippedBy code w held at x) e s
 
 -- ---- so many of them
 
@@ -180,7 +173,7 @@ module _ (code : List ℕ) {low high prev cur vals : List ℤ} {b : Progress} (r
     over_pick cur₁ e = rw e (over_then n k next o 1 q cur (lastly (passing_at b k next) vals cur vals cur q pick_moves))
 
     -- and a settle behind it
-    pub over_settle : (t : Progress) (cur₁ : List ℤ) → SettledBy code prev q cur cur₁ (T.On t) → Goes code low high prev (n + 2) b vals cur t vals cur₁
+    pub over_settle : (t : Progress) (cur₁ : List ℤ) → SettledBy code prev q cur cur₁ (Some t) → Goes code low high prev (n + 2) b vals cur t vals cur₁
     over_settle t cur₁ s =
         over_then n k next o 2 t cur₁ (first 1 (passing_at b k next) vals cur vals cur q vals cur₁ t pick_moves refl refl (lastly q vals cur vals cur₁ t (s low high vals (moves_ready (ready_at n k next o) vals cur q pick_moves refl refl))))
 
@@ -202,18 +195,18 @@ first_over code prev b cur cur₁ L.Broken go h = h
 
 -- ---- a settle
 
-pub settled_as : (code : List ℕ) (prev : List ℤ) (b : Progress) (cur cur₁ : List ℤ) (m x : Settled) → SettledBy code prev b cur cur₁ m → m ≡ x → SettledBy code prev b cur cur₁ x
-settled_as code prev b cur cur₁ m x h e = subst (λ (y : Settled). SettledBy code prev b cur cur₁ y) e h
+pub settled_as : (code : List ℕ) (prev : List ℤ) (b : Progress) (cur cur₁ : List ℤ) (m x : O.Option Progress) → SettledBy code prev b cur cur₁ m → m ≡ x → SettledBy code prev b cur cur₁ x
+settled_as code prev b cur cur₁ m x h e = subst (λ (y : O.Option Progress). SettledBy code prev b cur cur₁ y) e h
 
 module _ (code : List ℕ) (prev : List ℤ) (b : Progress) (cur : List ℤ) (within : b.at < length code) (is : get_or code b.at 0 ≡ 22) (n next : ℕ) (num : number_at code (b.at + 1) ≡ got n next) (k : Walk) (a : Advanced)
-    (kept : a ≡ Kept k) (e : advanced_known a ≡ advance_by (some (settle n)) (known_of b.walk)) (small : SmallAfter a) where
+    (kept : a ≡ Some k) (e : advanced_known a ≡ advance_by (some (settle n)) (known_of b.walk)) (small : SmallAfter a) where
   -- none stands behind an open gate
   not_open : open_of b.walk.gate ≡ true → ⊥
   unfolding instruction_of
   not_open g = none≢some _ (sym (open_breaks b.walk g 22 n (omega arith) (λ x. omega (arith, x)) (λ x. omega (arith, x)) (λ x. omega (arith, x))) ∙ sym e ∙ ap advanced_known kept)
 
   pub settles : (cur₁ : List ℤ) → ((ns : Setting) (vals : List ℤ) → length ns.ranges ≡ length prev → ok (machine false false (held_of vals b.walk.held) cur₁) ≡ perform ns prev (settle n) b.picked (held_of vals b.walk.held) cur)
-      → SettledBy code prev b cur cur₁ (T.On (record { walk = k; at = next; picked = false; passing = false }))
+      → SettledBy code prev b cur cur₁ (Some (record { walk = k; at = next; picked = false; passing = false }))
   unfolding instruction_of has_operand
   settles cur₁ acts low high vals r =
       arrives r go code next k vals cur₁ (some (settle n)) (with_operand code b within 22 is refl n next num) (number_within _ _ _ _ num).inside a kept e small

@@ -7,18 +7,10 @@ ghost use Rattle.checker.specs.Inner.Walk.{Small};
 ghost use Rattle.fused.specs.Inner.Passes.{Ready};
 ghost use Rattle.fused.specs.Inner.Acts.{done_of, ActedBy, SmallOn, PutBy, DoneBy, RelatedBy, ActedHere, PutOnBy, StretchedBy, Shut, shut_of};
 
-use crate::ahead::Seen;
 use crate::{Progress, ahead};
 use checker::advance;
-use checker::advance::{Advanced, Walk};
+use checker::advance::Walk;
 use machine::values;
-
-// The progress behind instructions that are done, and how many they are; or it is another, and nothing is done.
-#[derive(Clone, Copy)]
-pub enum Acted {
-    On(Progress, usize),
-    Other,
-}
 
 // The progress behind instructions that are done, and how many they are.
 #[derive(Clone, Copy)]
@@ -27,73 +19,78 @@ pub struct Stretch {
     pub steps: usize,
 }
 
-// One instruction, with the walk and the place behind it.
-fn done(b: Progress, k: Walk, next: usize) -> Acted
+// One instruction, with the walk and the place behind it. Here and below: the progress behind instructions that are done, and how many they are; or it is
+// another, and nothing is done.
+fn done(b: Progress, k: Walk, next: usize) -> Option<(Progress, usize)>
     ensures { result ≡ done_of b k next }
 {
-    Acted::On(
-        Progress {
-            walk: k,
-            at: next,
-            picked: b.picked,
-            passing: false,
-        },
-        1,
-    )
+    let p = Progress {
+        walk: k,
+        at: next,
+        picked: b.picked,
+        passing: false,
+    };
+    Some((p, 1))
 }
 
 // Codes 1 to 3: a value is put on top.
-fn put(vals: &mut [i32], b: Progress, next: usize, v: i32) -> Acted
+fn put(vals: &mut [i32], b: Progress, next: usize, v: i32) -> Option<(Progress, usize)>
     requires { Small b.walk × (stack_limit ≤ length vals.old) }
     ensures put_by { PutBy next v b vals.old vals.new result }
     ensures small_on { SmallOn result }
 {
     let w = b.walk;
-    let Advanced::Kept(k) = advance::push(w) else {
-        return Acted::Other;
+    let Some(k) = advance::push(w) else {
+        return None;
     };
     let h = w.held as usize;
     if limits::STACK_LIMIT <= h {
-        return Acted::Other;
+        return None;
     }
     vals[h] = v;
     done(b, k, next)
 }
 
 // Codes 4 to 8.
-fn calculate(vals: &mut [i32], b: Progress, next: usize, byte: u8) -> Acted
+fn calculate(vals: &mut [i32], b: Progress, next: usize, byte: u8) -> Option<(Progress, usize)>
     requires { Small b.walk × (stack_limit ≤ length vals.old) }
     ensures { DoneBy (operation (operation_of byte)) next b vals.old vals.new result }
 {
     let w = b.walk;
-    let Advanced::Kept(k) = advance::join(w, advance::NUMBER, advance::NUMBER) else {
-        return Acted::Other;
+    let Some(k) = advance::join(w, advance::NUMBER, advance::NUMBER) else {
+        return None;
     };
     let h = w.held as usize;
     if h < 2 {
-        return Acted::Other;
+        return None;
     }
     let left = h - 2;
     let right = h - 1;
-    let arith::Value::Is(v) = values::calculated(byte, vals[left], vals[right]) else {
-        return Acted::Other;
+    let Some(v) = values::calculated(byte, vals[left], vals[right]) else {
+        return None;
     };
     vals[left] = v;
     done(b, k, next)
 }
 
 // Codes 10 to 15, 17 and 18.
-fn relate(vals: &mut [i32], b: Progress, next: usize, byte: u8, sort: u64) -> Acted
+fn relate(
+    vals: &mut [i32],
+    b: Progress,
+    next: usize,
+    byte: u8,
+    sort: u64,
+) -> Option<(Progress, usize)>
     requires { Small b.walk × (sort < 2) × (stack_limit ≤ length vals.old) }
     ensures { RelatedBy byte sort next b vals.old vals.new result }
 {
     let w = b.walk;
-    let Advanced::Kept(k) = advance::test(w, sort) else {
-        return Acted::Other;
+    let Some(k) = advance::test(w, sort) else {
+        return None;
     };
     let h = w.held as usize;
     if h < 2 {
-        return Acted::Other;
+        return None;
     }
     let left = h - 2;
     let right = h - 1;
@@ -103,17 +100,17 @@ fn relate(vals: &mut [i32], b: Progress, next: usize, byte: u8, sort: u64) -> Ac
 }
 
 // Code 16.
-fn invert(vals: &mut [i32], b: Progress, next: usize) -> Acted
+fn invert(vals: &mut [i32], b: Progress, next: usize) -> Option<(Progress, usize)>
     requires { Small b.walk × (stack_limit ≤ length vals.old) }
     ensures { DoneBy negated next b vals.old vals.new result }
 {
     let w = b.walk;
-    let Advanced::Kept(k) = advance::invert(w) else {
-        return Acted::Other;
+    let Some(k) = advance::invert(w) else {
+        return None;
     };
     let h = w.held as usize;
     if h == 0 {
-        return Acted::Other;
+        return None;
     }
     let top = h - 1;
     let v = values::bit_of(!values::is_yes(vals[top]));
@@ -122,7 +119,7 @@ fn invert(vals: &mut [i32], b: Progress, next: usize) -> Acted
 }
 
 // The operation or comparison that stands here, on the two numbers on top.
-fn work(code: &[u8], vals: &mut [i32], b: Progress) -> Acted
+fn work(code: &[u8], vals: &mut [i32], b: Progress) -> Option<(Progress, usize)>
     requires { Small b.walk × (b.at < length code.now) × (stack_limit ≤ length vals.old) }
     ensures { ActedHere code.now b vals.old vals.new result }
 {
@@ -131,25 +128,31 @@ fn work(code: &[u8], vals: &mut [i32], b: Progress) -> Acted
     match byte {
         4..=8 => calculate(vals, b, at + 1, byte),
         10..=15 => relate(vals, b, at + 1, byte, advance::NUMBER),
-        _ => Acted::Other,
+        _ => None,
     }
 }
 
 // Code 1: the constant is put on top, and the operation or comparison behind it, if one stands there, is done too.
-fn put_constant(code: &[u8], vals: &mut [i32], b: Progress, next: usize, v: i32) -> Acted
+fn put_constant(
+    code: &[u8],
+    vals: &mut [i32],
+    b: Progress,
+    next: usize,
+    v: i32,
+) -> Option<(Progress, usize)>
     requires { Small b.walk × (stack_limit ≤ length vals.old) }
     ensures { PutOnBy code.now next v b vals.old vals.new result }
 {
-    let Acted::On(p, _) = put(vals, b, next, v) else {
-        return Acted::Other;
+    let Some((p, _)) = put(vals, b, next, v) else {
+        return None;
     };
     if code.len() <= p.at {
-        return Acted::On(p, 1);
+        return Some((p, 1));
     }
-    let Acted::On(q, _) = work(code, vals, p) else {
-        return Acted::On(p, 1);
+    let Some((q, _)) = work(code, vals, p) else {
+        return Some((p, 1));
     };
-    Acted::On(q, 2)
+    Some((q, 2))
 }
 
 // One instruction, or a constant and what works on it.
@@ -161,7 +164,7 @@ fn act_one(
     cur: &[i32],
     vals: &mut [i32],
     b: Progress,
-) -> Acted
+) -> Option<(Progress, usize)>
     requires ready { Ready low.now high.now prev.now cur.now vals.old b }
     requires at_in_bounds { (b.at < length code.now) × (b.passing ≡ false) }
     ensures { ActedBy code.now low.now high.now prev.now b vals.old cur.now vals.new result }
@@ -172,30 +175,30 @@ fn act_one(
     let byte = code[at];
     match byte {
         1 => {
-            let leb128::Unsigned::Number(n, next) = leb128::unsigned_at(code, behind) else {
-                return Acted::Other;
+            let Some((n, next)) = leb128::unsigned_at(code, behind) else {
+                return None;
             };
             put_constant(code, vals, b, next, leb128::unzigzag(n))
         }
         2 => {
-            let leb128::Unsigned::Number(n, next) = leb128::unsigned_at(code, behind) else {
-                return Acted::Other;
+            let Some((n, next)) = leb128::unsigned_at(code, behind) else {
+                return None;
             };
             if w.names <= n {
-                return Acted::Other;
+                return None;
             }
             if !advance::is_known(w, n) {
-                return Acted::Other;
+                return None;
             }
             let i = n as usize;
             put(vals, b, next, cur[i])
         }
         3 => {
-            let leb128::Unsigned::Number(n, next) = leb128::unsigned_at(code, behind) else {
-                return Acted::Other;
+            let Some((n, next)) = leb128::unsigned_at(code, behind) else {
+                return None;
             };
             if w.names <= n {
-                return Acted::Other;
+                return None;
             }
             let i = n as usize;
             put(vals, b, next, prev[i])
@@ -205,7 +208,7 @@ fn act_one(
         16 => invert(vals, b, behind),
         17 => relate(vals, b, behind, 17, advance::TRUTH),
         18 => relate(vals, b, behind, 18, advance::TRUTH),
-        _ => Acted::Other,
+        _ => None,
     }
 }
 
@@ -218,14 +221,14 @@ fn act_ahead(
     cur: &[i32],
     vals: &mut [i32],
     b: Progress,
-) -> Acted
+) -> Option<(Progress, usize)>
     requires ready { Ready low.now high.now prev.now cur.now vals.old b }
     requires at_in_bounds { (b.at < length code.now) × (b.passing ≡ false) }
     ensures { ActedBy code.now low.now high.now prev.now b vals.old cur.now vals.new result }
 {
     let at = b.at;
     let w = b.walk;
-    let Seen::Value(v, sort) = ahead::pair_ahead(code, prev, cur, at, w) else {
+    let Some((v, sort)) = ahead::pair_ahead(code, prev, cur, at, w) else {
         return act_one(code, low, high, prev, cur, vals, b);
     };
     let h = w.held as usize;
@@ -233,15 +236,13 @@ fn act_ahead(
     let mut k = w;
     k.held = w.held + 1;
     k.sorts = w.sorts * 2 + sort;
-    Acted::On(
-        Progress {
-            walk: k,
-            at: at + 5,
-            picked: b.picked,
-            passing: false,
-        },
-        3,
-    )
+    let p = Progress {
+        walk: k,
+        at: at + 5,
+        picked: b.picked,
+        passing: false,
+    };
+    Some((p, 3))
 }
 
 // As many of them as stand here.
@@ -261,7 +262,7 @@ pub fn act(
     let mut b = first;
     let mut steps = 0;
     while b.at < code.len() {
-        let Acted::On(k, n) = act_ahead(code, low, high, prev, cur, vals, b) else {
+        let Some((k, n)) = act_ahead(code, low, high, prev, cur, vals, b) else {
             break;
         };
         b = k;

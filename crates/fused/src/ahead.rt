@@ -7,15 +7,8 @@ ghost use Rattle.fused.specs.Inner.Leaps.{FoundBy, SeenBy, with_held, SkippedBy,
 
 use crate::{Moved, Progress, act};
 use checker::advance;
-use checker::advance::{Advanced, Walk};
+use checker::advance::Walk;
 use machine::values;
-
-// What the two make, and its sort; or nothing is seen.
-#[derive(Clone, Copy)]
-pub enum Seen {
-    Value(i32, u64),
-    Other,
-}
 
 // The progress behind instructions, and how many were done; or what the first of them leads to.
 #[derive(Clone, Copy)]
@@ -25,91 +18,77 @@ pub enum Leap {
     Broken,
 }
 
-// The progress behind a settle; or none stands here.
-#[derive(Clone, Copy)]
-enum Settled {
-    On(Progress),
-    Other,
-}
-
 fn wide(x: u8) -> u64
     ensures { result ≡ x }
 {
     x as u64
 }
 
-// What an operation or comparison makes of two numbers, where the walk lets it pass.
-fn found(w: Walk, op: u8, a: i32, c: i32) -> Seen
+// What an operation or comparison makes of two numbers, and its sort, where the walk lets it pass.
+fn found(w: Walk, op: u8, a: i32, c: i32) -> Option<(i32, u64)>
     ensures { FoundBy w op a c result }
 {
     match op {
         4..=8 => {
-            let arith::Value::Is(v) = values::calculated(op, a, c) else {
-                return Seen::Other;
+            let Some(v) = values::calculated(op, a, c) else {
+                return None;
             };
-            Seen::Value(v, advance::NUMBER)
+            Some((v, advance::NUMBER))
         }
         10..=15 => {
             if w.gate != 0 {
-                return Seen::Other;
+                return None;
             }
-            Seen::Value(values::bit_of(values::truth(op, a, c)), advance::TRUTH)
+            Some((values::bit_of(values::truth(op, a, c)), advance::TRUTH))
         }
-        _ => Seen::Other,
+        _ => None,
     }
 }
 
-// A current or previous value, a constant, and an operation or comparison, with operands of one byte, that the walk lets pass.
-pub fn pair_ahead(code: &[u8], prev: &[i32], cur: &[i32], at: usize, w: Walk) -> Seen
+// The same of a current or previous value, a constant, and an operation or comparison, with operands of one byte, that the walk lets pass.
+pub fn pair_ahead(code: &[u8], prev: &[i32], cur: &[i32], at: usize, w: Walk) -> Option<(i32, u64)>
     requires { Small w × (at < length code.now) × (w.names ≤ length prev.now) × (w.names ≤ length cur.now) }
     ensures { SeenBy code.now prev.now cur.now at w result }
 {
     let byte = code[at];
     if byte < 2 {
-        return Seen::Other;
+        return None;
     }
     if 3 < byte {
-        return Seen::Other;
+        return None;
     }
     if code.len() <= at + 4 {
-        return Seen::Other;
+        return None;
     }
     if code[at + 2] != 1 {
-        return Seen::Other;
+        return None;
     }
     let op = code[at + 4];
     if op < 4 {
-        return Seen::Other;
+        return None;
     }
     if 15 < op {
-        return Seen::Other;
+        return None;
     }
     let id = wide(code[at + 1]);
     if w.names <= id {
-        return Seen::Other;
+        return None;
     }
     let n = wide(code[at + 3]);
     if 127 < n {
-        return Seen::Other;
+        return None;
     }
     if (limits::STACK_LIMIT as u64) <= w.held + 1 {
-        return Seen::Other;
+        return None;
     }
     let i = id as usize;
     if byte == 3 {
         return found(w, op, prev[i], leb128::unzigzag(n));
     }
     if !advance::is_known(w, id) {
-        return Seen::Other;
+        return None;
     }
     found(w, op, cur[i], leb128::unzigzag(n))
-}
-
-// How many values are held behind an instruction that is passed over, and the place behind it; or it is another.
-#[derive(Clone, Copy)]
-enum Skipped {
-    Over(u64, usize),
-    Other,
 }
 
 // How many values are held behind instructions that are passed over, the place behind them, and how many they are.
@@ -120,43 +99,44 @@ pub struct Passage {
     pub steps: usize,
 }
 
-// Codes 1 to 8, where so many numbers are held and nothing else.
-fn skip_one(code: &[u8], at: usize, held: u64, w: Walk) -> Skipped
+// Codes 1 to 8, where so many numbers are held and nothing else: how many are held behind the one that is passed over, and the place behind it; or it is
+// another.
+fn skip_one(code: &[u8], at: usize, held: u64, w: Walk) -> Option<(u64, usize)>
     requires { Small w × Small (with_held w held) × (w.sorts ≡ 0) × (at < length code.now) }
     ensures { SkippedBy code.now w held at result }
 {
     let byte = code[at];
     if 8 < byte {
-        return Skipped::Other;
+        return None;
     }
     if 3 < byte {
         if held < 2 {
-            return Skipped::Other;
+            return None;
         }
-        return Skipped::Over(held - 1, at + 1);
+        return Some((held - 1, at + 1));
     }
     if (limits::STACK_LIMIT as u64) <= held {
-        return Skipped::Other;
+        return None;
     }
-    let leb128::Unsigned::Number(n, next) = leb128::unsigned_at(code, at + 1) else {
-        return Skipped::Other;
+    let Some((n, next)) = leb128::unsigned_at(code, at + 1) else {
+        return None;
     };
     if byte == 1 {
-        return Skipped::Over(held + 1, next);
+        return Some((held + 1, next));
     }
     if byte == 3 {
         if w.names <= n {
-            return Skipped::Other;
+            return None;
         }
-        return Skipped::Over(held + 1, next);
+        return Some((held + 1, next));
     }
     if byte == 0 {
-        return Skipped::Other;
+        return None;
     }
     if advance::is_known(w, n) {
-        return Skipped::Over(held + 1, next);
+        return Some((held + 1, next));
     }
-    Skipped::Other
+    None
 }
 
 // As many of them as stand here.
@@ -169,7 +149,7 @@ fn skip(code: &[u8], from: usize, w: Walk) -> Passage
     let mut steps = 0;
     if w.sorts == 0 {
         while at < code.len() {
-            let Skipped::Over(more, next) = skip_one(code, at, held, w) else {
+            let Some((more, next)) = skip_one(code, at, held, w) else {
                 break;
             };
             held = more;
@@ -180,33 +160,33 @@ fn skip(code: &[u8], from: usize, w: Walk) -> Passage
     Passage { held, at, steps }
 }
 
-// A settle that the walk lets pass.
-fn settle_ahead(code: &[u8], prev: &[i32], cur: &mut [i32], b: Progress) -> Settled
+// The progress behind a settle that the walk lets pass; or none stands here.
+fn settle_ahead(code: &[u8], prev: &[i32], cur: &mut [i32], b: Progress) -> Option<Progress>
     requires { Small b.walk × (b.walk.names ≤ length prev.now) × (length cur.old ≡ length prev.now) }
     ensures { SettledBy code.now prev.now b cur.old cur.new result }
 {
     let at = b.at;
     let w = b.walk;
     if code.len() <= at {
-        return Settled::Other;
+        return None;
     }
     if code[at] != 22 {
-        return Settled::Other;
+        return None;
     }
-    let leb128::Unsigned::Number(n, next) = leb128::unsigned_at(code, at + 1) else {
-        return Settled::Other;
+    let Some((n, next)) = leb128::unsigned_at(code, at + 1) else {
+        return None;
     };
-    let Advanced::Kept(k) = advance::settle(w, n) else {
-        return Settled::Other;
+    let Some(k) = advance::settle(w, n) else {
+        return None;
     };
     if w.names <= n {
-        return Settled::Other;
+        return None;
     }
     if !b.picked {
         let i = n as usize;
         cur[i] = prev[i];
     }
-    Settled::On(Progress {
+    Some(Progress {
         walk: k,
         at: next,
         picked: false,
@@ -236,7 +216,7 @@ fn pass_on(code: &[u8], prev: &[i32], cur: &mut [i32], b: Progress) -> Leap
     }
     match crate::pass(code, p) {
         Moved::On(q) => {
-            let Settled::On(t) = settle_ahead(code, prev, cur, q) else {
+            let Some(t) = settle_ahead(code, prev, cur, q) else {
                 return Leap::On(q, s.steps + 1);
             };
             Leap::On(t, s.steps + 2)

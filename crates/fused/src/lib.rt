@@ -5,13 +5,13 @@
 ghost use Rattle.std.specs.Prelude.{◌≡◌, true, false, ◌+◌, ◌≤◌, ◌<◌, length};
 ghost use Rattle.limits.specs.Limits.{name_limit, stack_limit};
 ghost use Rattle.leb128.specs.Numbers.{number_at};
-ghost use Rattle.leb128.specs.Results.{unsigned_read};
+ghost use Rattle.leb128.specs.Results.{number_read};
 ghost use Rattle.checker.specs.Inner.Walk.{open_of, Small};
 ghost use Rattle.machine.specs.Inner.Memory.{OneEach};
 ghost use Rattle.fused.specs.Inner.Passes.{PassesBy, Ready, MovesBy, RefusedBy, BrokenBy, RunBy};
 
 use ahead::Leap;
-use checker::advance::{Advanced, Walk};
+use checker::advance::Walk;
 use checker::{Verdict, advance};
 use machine::{Registers, held};
 use moves::{onward, over};
@@ -48,10 +48,10 @@ pub enum Ended {
     Timed,
 }
 
-// The operand of the instruction at a place.
-fn operand(code: &[u8], at: usize) -> leb128::Unsigned
+// The operand of the instruction at a place, and the place behind it.
+fn operand(code: &[u8], at: usize) -> Option<(u64, usize)>
     requires { at < length code.now }
-    ensures { unsigned_read result ≡ number_at code.now (at + 1) }
+    ensures { number_read result ≡ number_at code.now (at + 1) }
 {
     leb128::unsigned_at(code, at + 1)
 }
@@ -67,19 +67,19 @@ fn pass(code: &[u8], b: Progress) -> Moved
     let w = b.walk;
     match byte {
         1 => {
-            let leb128::Unsigned::Number(_, next) = operand(code, at) else {
+            let Some((_, next)) = operand(code, at) else {
                 return Moved::Broken;
             };
             over(b, next, true, advance::push(w))
         }
         2 => {
-            let leb128::Unsigned::Number(n, next) = operand(code, at) else {
+            let Some((n, next)) = operand(code, at) else {
                 return Moved::Broken;
             };
             over(b, next, true, advance::current(w, n))
         }
         3 => {
-            let leb128::Unsigned::Number(n, next) = operand(code, at) else {
+            let Some((n, next)) = operand(code, at) else {
                 return Moved::Broken;
             };
             over(b, next, true, advance::previous(w, n))
@@ -92,19 +92,19 @@ fn pass(code: &[u8], b: Progress) -> Moved
         ),
         9 => over(b, behind, true, advance::keep(w, advance::NUMBER)),
         20 => {
-            let leb128::Unsigned::Number(n, next) = operand(code, at) else {
+            let Some((n, next)) = operand(code, at) else {
                 return Moved::Broken;
             };
             over(b, next, false, advance::pick(w, advance::CHANGING, n))
         }
         24 => {
-            let leb128::Unsigned::Number(n, next) = operand(code, at) else {
+            let Some((n, next)) = operand(code, at) else {
                 return Moved::Broken;
             };
             over(b, next, false, advance::pick(w, advance::RISING, n))
         }
         25 => {
-            let leb128::Unsigned::Number(n, next) = operand(code, at) else {
+            let Some((n, next)) = operand(code, at) else {
                 return Moved::Broken;
             };
             over(b, next, false, advance::pick(w, advance::FALLING, n))
@@ -139,52 +139,52 @@ fn advance_one(
     };
     match byte {
         1 => {
-            let leb128::Unsigned::Number(n, next) = operand(code, at) else {
+            let Some((n, next)) = operand(code, at) else {
                 return Moved::Broken;
             };
-            let Advanced::Kept(k) = advance::push(w) else {
+            let Some(k) = advance::push(w) else {
                 return Moved::Broken;
             };
             onward(k, next, machine::act(low, high, prev, cur, vals, m, 1, n))
         }
         2 => {
-            let leb128::Unsigned::Number(n, next) = operand(code, at) else {
+            let Some((n, next)) = operand(code, at) else {
                 return Moved::Broken;
             };
-            let Advanced::Kept(k) = advance::current(w, n) else {
+            let Some(k) = advance::current(w, n) else {
                 return Moved::Broken;
             };
             onward(k, next, machine::act(low, high, prev, cur, vals, m, 2, n))
         }
         3 => {
-            let leb128::Unsigned::Number(n, next) = operand(code, at) else {
+            let Some((n, next)) = operand(code, at) else {
                 return Moved::Broken;
             };
-            let Advanced::Kept(k) = advance::previous(w, n) else {
+            let Some(k) = advance::previous(w, n) else {
                 return Moved::Broken;
             };
             onward(k, next, machine::act(low, high, prev, cur, vals, m, 3, n))
         }
         4..=8 => {
-            let Advanced::Kept(k) = advance::join(w, advance::NUMBER, advance::NUMBER) else {
+            let Some(k) = advance::join(w, advance::NUMBER, advance::NUMBER) else {
                 return Moved::Broken;
             };
             onward(k, behind, held::calculate(vals, m, byte))
         }
         9 => {
-            let Advanced::Kept(k) = advance::keep(w, advance::NUMBER) else {
+            let Some(k) = advance::keep(w, advance::NUMBER) else {
                 return Moved::Broken;
             };
             onward(k, behind, machine::act(low, high, prev, cur, vals, m, 9, 0))
         }
         10..=15 => {
-            let Advanced::Kept(k) = advance::test(w, advance::NUMBER) else {
+            let Some(k) = advance::test(w, advance::NUMBER) else {
                 return Moved::Broken;
             };
             onward(k, behind, held::relate(vals, m, byte))
         }
         16 => {
-            let Advanced::Kept(k) = advance::invert(w) else {
+            let Some(k) = advance::invert(w) else {
                 return Moved::Broken;
             };
             onward(
@@ -194,7 +194,7 @@ fn advance_one(
             )
         }
         17 => {
-            let Advanced::Kept(k) = advance::test(w, advance::TRUTH) else {
+            let Some(k) = advance::test(w, advance::TRUTH) else {
                 return Moved::Broken;
             };
             onward(
@@ -204,7 +204,7 @@ fn advance_one(
             )
         }
         18 => {
-            let Advanced::Kept(k) = advance::test(w, advance::TRUTH) else {
+            let Some(k) = advance::test(w, advance::TRUTH) else {
                 return Moved::Broken;
             };
             onward(
@@ -214,7 +214,7 @@ fn advance_one(
             )
         }
         19 => {
-            let Advanced::Kept(k) = advance::gate(w) else {
+            let Some(k) = advance::gate(w) else {
                 return Moved::Broken;
             };
             onward(
@@ -224,46 +224,46 @@ fn advance_one(
             )
         }
         20 => {
-            let leb128::Unsigned::Number(n, next) = operand(code, at) else {
+            let Some((n, next)) = operand(code, at) else {
                 return Moved::Broken;
             };
-            let Advanced::Kept(k) = advance::pick(w, advance::CHANGING, n) else {
+            let Some(k) = advance::pick(w, advance::CHANGING, n) else {
                 return Moved::Broken;
             };
             onward(k, next, machine::act(low, high, prev, cur, vals, m, 20, n))
         }
         21 => {
-            let leb128::Unsigned::Number(n, next) = operand(code, at) else {
+            let Some((n, next)) = operand(code, at) else {
                 return Moved::Broken;
             };
-            let Advanced::Kept(k) = advance::assign(w, n) else {
+            let Some(k) = advance::assign(w, n) else {
                 return Moved::Broken;
             };
             onward(k, next, machine::act(low, high, prev, cur, vals, m, 21, n))
         }
         22 => {
-            let leb128::Unsigned::Number(n, next) = operand(code, at) else {
+            let Some((n, next)) = operand(code, at) else {
                 return Moved::Broken;
             };
-            let Advanced::Kept(k) = advance::settle(w, n) else {
+            let Some(k) = advance::settle(w, n) else {
                 return Moved::Broken;
             };
             onward(k, next, machine::act(low, high, prev, cur, vals, m, 22, n))
         }
         24 => {
-            let leb128::Unsigned::Number(n, next) = operand(code, at) else {
+            let Some((n, next)) = operand(code, at) else {
                 return Moved::Broken;
             };
-            let Advanced::Kept(k) = advance::pick(w, advance::RISING, n) else {
+            let Some(k) = advance::pick(w, advance::RISING, n) else {
                 return Moved::Broken;
             };
             onward(k, next, machine::act(low, high, prev, cur, vals, m, 24, n))
         }
         25 => {
-            let leb128::Unsigned::Number(n, next) = operand(code, at) else {
+            let Some((n, next)) = operand(code, at) else {
                 return Moved::Broken;
             };
-            let Advanced::Kept(k) = advance::pick(w, advance::FALLING, n) else {
+            let Some(k) = advance::pick(w, advance::FALLING, n) else {
                 return Moved::Broken;
             };
             onward(k, next, machine::act(low, high, prev, cur, vals, m, 25, n))

@@ -3,14 +3,14 @@ ghost use Rattle.std.specs.Prelude.{◌≡◌};
 ghost use Rattle.fused.specs.Inner.Passes.{passed_over, moved_of};
 
 use crate::{Moved, Progress};
-use checker::advance::{Advanced, Walk};
+use checker::advance::Walk;
 use machine::Stepped;
 
 // An instruction that is passed over: only the walk moves.
-pub fn over(b: Progress, next: usize, passing: bool, a: Advanced) -> Moved
+pub fn over(b: Progress, next: usize, passing: bool, a: Option<Walk>) -> Moved
     ensures { result ≡ passed_over b next passing a }
 {
-    let Advanced::Kept(k) = a else {
+    let Some(k) = a else {
         return Moved::Broken;
     };
     Moved::On(Progress {

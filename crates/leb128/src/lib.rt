@@ -4,22 +4,8 @@
 ghost use Rattle.std.specs.Prelude.{◌≡◌, ◌+◌, ◌<◌, ◌^◌, length, set};
 ghost use Rattle.std.proofs.lemmas.List.Edits.{sets};
 ghost use Rattle.leb128.specs.Numbers.{number, found, below32, number_at, signed_at, zigzag as zigzagOf, unzigzag as unzigzagOf};
-ghost use Rattle.leb128.specs.Results.{unsigned_read, signed_read};
+ghost use Rattle.leb128.specs.Results.{number_read};
 ghost use Rattle.leb128.specs.Inner.Groups.{joined_groups};
-
-// A number and the place behind it, or no number below 2 ^ 32 in shortest form.
-#[derive(Clone, Copy)]
-pub enum Unsigned {
-    Number(u64, usize),
-    Malformed,
-}
-
-// A signed number and the place behind it, likewise.
-#[derive(Clone, Copy)]
-pub enum Signed {
-    Number(i32, usize),
-    Malformed,
-}
 
 fn wide(x: u8) -> u64
     ensures { result ≡ x }
@@ -31,26 +17,26 @@ fn wide(x: u8) -> u64
 const FIFTH: u64 = 268435456;
 
 // The number whose last group, at `at`, is b, behind groups of value `low`: shortest form only, and below 2 ^ 32.
-fn last(low: u64, scale: u64, b: u64, at: usize) -> Unsigned
+fn last(low: u64, scale: u64, b: u64, at: usize) -> Option<(u64, usize)>
     requires { (low < scale) × (scale < 2 ^ 35) × (b < 128) × (at + 1 < 2 ^ 64) }
-    ensures { unsigned_read result ≡ below32 at (joined_groups low scale (found b 1)) }
+    ensures { number_read result ≡ below32 at (joined_groups low scale (found b 1)) }
 {
     let v = low + b * scale;
     if 4294967296 <= v {
-        return Unsigned::Malformed;
+        return None;
     }
     if 1 <= b {
-        return Unsigned::Number(v, at + 1);
+        return Some((v, at + 1));
     }
     if scale == 1 {
-        return Unsigned::Number(v, at + 1);
+        return Some((v, at + 1));
     }
-    Unsigned::Malformed
+    None
 }
 
 // A number of any length, group by group, the lowest first, at most five; `scale` is what a 1 of the group at `i` counts.
-fn long_at(s: &[u8], at: usize) -> Unsigned
-    ensures { unsigned_read result ≡ number_at s.now at }
+fn long_at(s: &[u8], at: usize) -> Option<(u64, usize)>
+    ensures { number_read result ≡ number_at s.now at }
 {
     let mut low: u64 = 0;
     let mut scale: u64 = 1;
@@ -61,35 +47,34 @@ fn long_at(s: &[u8], at: usize) -> Unsigned
             return last(low, scale, byte, i);
         }
         if FIFTH <= scale {
-            return Unsigned::Malformed;
+            return None;
         }
         low = low + (byte - 128) * scale;
         scale = scale * 128;
         i += 1;
     }
-    Unsigned::Malformed
+    None
 }
 
-// The number at a place. Most have one group, which is read here without a call.
-pub fn unsigned_at(s: &[u8], at: usize) -> Unsigned
-    ensures { unsigned_read result ≡ number_at s.now at }
+// The number at a place and the place behind it, or no number below 2 ^ 32 in shortest form. Most have one group, which is read here without a call.
+pub fn unsigned_at(s: &[u8], at: usize) -> Option<(u64, usize)>
+    ensures { number_read result ≡ number_at s.now at }
 {
     if at < s.len() {
         let b = wide(s[at]);
         if b < 128 {
-            return Unsigned::Number(b, at + 1);
+            return Some((b, at + 1));
         }
     }
     long_at(s, at)
 }
 
-pub fn signed_at(s: &[u8], at: usize) -> Signed
-    ensures { signed_read result ≡ signed_at s.now at }
+// A signed number, likewise.
+pub fn signed_at(s: &[u8], at: usize) -> Option<(i32, usize)>
+    ensures { number_read result ≡ signed_at s.now at }
 {
-    let Unsigned::Number(u, next) = unsigned_at(s, at) else {
-        return Signed::Malformed;
-    };
-    Signed::Number(unzigzag(u), next)
+    let (u, next) = unsigned_at(s, at)?;
+    Some((unzigzag(u), next))
 }
 
 // One byte, where there is room for it; the place behind it.

@@ -21,11 +21,10 @@ use Rattle.machine.specs.Inner.Memory.{machine_of, step_outcome, stepped, Settin
 use Rattle.machine.specs.declared.Executed.{Executed}
 use Rattle.machine.specs.declared.Stepped.TheVariants as S
 use Rattle.machine.specs.declared.Timing.{Timing}
-use Rattle.machine.specs.declared.timer.Worked.{Worked}
-use Rattle.machine.specs.declared.timer.Worked.TheVariants as W
+use Rattle.std.specs.Prelude.{Some, None}
+use Rattle.std.specs.Prelude as O
 use Rattle.machine.specs.declared.dispatch.Dispatched.{Dispatched}
 use Rattle.machine.specs.declared.dispatch.Dispatched.TheVariants as D
-use Rattle.machine.specs.declared.passing.Passing.TheVariants as P
 use Rattle.machine.specs.Inner.Dispatch.{registers, Continues, Stops, AtTimer, DispatchedBy, WorkedBy, resting_at, refused_at, RestsAt, RanTo}
 use Rattle.machine.specs.Inner.Passing.{FirstBy}
 use Rattle.machine.proofs.Laws.{run_end_lem, run_broken}
@@ -96,7 +95,7 @@ module _ {code : List ℕ} {settings : Setting → Type 0} {low high prev cur₀
 
   -- instructions passed over, where they are
   module _ (h : done < budget) (p : Bool) (next n : ℕ) where
-    pub passed_by : (passing : Bool) → k.passing ≡ passing → FirstBy code at passing (budget - done) (P.On p next n)
+    pub passed_by : (passing : Bool) → k.passing ≡ passing → FirstBy code at passing (budget - done) (Some (p, next, n))
         → Going code settings low high prev cur₀ vals₀ from budget m cur vals (registers k.held k.picked p) next (done + n)
     passed_by true is o =
         again h vals cur (registers k.held k.picked p) next n
@@ -107,17 +106,17 @@ module _ {code : List ℕ} {settings : Setting → Type 0} {low high prev cur₀
         rw (z, o.0, o.1) (stands is)
 
   -- at most the budget; some were, or none is passed over now
-  pub first_far : (p : Bool) (next n : ℕ) (passing : Bool) → FirstBy code at passing (budget - done) (P.On p next n) → (done + n ≤ budget) × ((done < done + n) ⊎ (p ≡ false))
+  pub first_far : (p : Bool) (next n : ℕ) (passing : Bool) → FirstBy code at passing (budget - done) (Some (p, next, n)) → (done + n ≤ budget) × ((done < done + n) ⊎ (p ≡ false))
   first_far p next n true o = (omega (arith, g.within, o.1), inl (omega (arith, o.0)))
   first_far p next n false o = (omega (arith, g.within, o.2), inr o.0)
 
-  pub broken_by : (passing : Bool) → k.passing ≡ passing → FirstBy code at passing (budget - done) P.Broken → Stops code settings prev at k vals cur 11
+  pub broken_by : (passing : Bool) → k.passing ≡ passing → FirstBy code at passing (budget - done) None → Stops code settings prev at k vals cur 11
   broken_by true is o = λ ns left start q l. rw is (o ns prev vals cur k.held k.picked left start l)
   broken_by false is o = absurd o
 
   -- a timer at work
-  module _ (acting : k.passing ≡ false) (h : done < budget) (cs : List ℤ) (w : Worked) (by : WorkedBy code settings prev at (registers k.held k.picked false) vals cur cs w) where
-    pub timer_on : (next : ℕ) → w ≡ W.Behind next → length cs ≡ length cur → Going code settings low high prev cur₀ vals₀ from budget m cs vals k next (done + 1)
+  module _ (acting : k.passing ≡ false) (h : done < budget) (cs : List ℤ) (w : O.Option ℕ) (by : WorkedBy code settings prev at (registers k.held k.picked false) vals cur cs w) where
+    pub timer_on : (next : ℕ) → w ≡ Some next → length cs ≡ length cur → Going code settings low high prev cur₀ vals₀ from budget m cs vals k next (done + 1)
     timer_on next is wider =
         let b : Continues code settings prev at (registers k.held k.picked false) vals cur vals cs 1 (registers k.held k.picked false) next 1
         = subst (λ x. WorkedBy code settings prev at (registers k.held k.picked false) vals cur cs x) is by in
@@ -125,7 +124,7 @@ module _ {code : List ℕ} {settings : Setting → Type 0} {low high prev cur₀
         (record { few = b.few; some_done = omega arith; no_more = omega arith; goes = λ ns left start q l. rw acting (b.goes ns left start q l) })
         refl wider
 
-    pub timer_refused : w ≡ W.Broken → (ns : Setting) → settings ns → ran (done + 1) at (refusal 11) ≡ run ns prev code budget from 0 (machine_of m vals₀ cur₀)
+    pub timer_refused : w ≡ None → (ns : Setting) → settings ns → ran (done + 1) at (refusal 11) ≡ run ns prev code budget from 0 (machine_of m vals₀ cur₀)
     timer_refused is ns q =
         let s : Stops code settings prev at (registers k.held k.picked false) vals cur 11
         = subst (λ x. WorkedBy code settings prev at (registers k.held k.picked false) vals cur cs x) is by in

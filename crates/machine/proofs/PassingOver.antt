@@ -13,12 +13,11 @@ use Rattle.semantics.specs.Formula.{State}
 use Rattle.semantics.specs.Shape.{Setting}
 use Rattle.leb128.specs.Numbers.{Read, got, nothing, number_at}
 use Rattle.bytecode.specs.Instructions.{Instruction, timer, instruction_of, has_operand, decoded, fetch}
-use Rattle.machine.specs.declared.passing.Passing.{Passing}
 use Rattle.machine.specs.Step.{Machine, machine}
 use Rattle.machine.specs.Runs.{after_step, run}
 use Rattle.machine.specs.Inner.Memory.{held_of, machine_of, stepped}
 use Rattle.machine.specs.Inner.Dispatch.{registers}
-use Rattle.machine.specs.Inner.Passing.{over_of, OverTo, BrokenOver, PassedBy}
+use Rattle.machine.specs.Inner.Passing.{Passing, over_of, OverTo, BrokenOver, PassedBy}
 use Rattle.machine.proofs.Laws.{run_broken}
 use Rattle.machine.proofs.Loop.{run_fetched}
 use Rattle.machine.proofs.Fetches.{read_alone, read_with, read_malformed}

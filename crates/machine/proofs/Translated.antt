@@ -21,7 +21,7 @@ use Rattle.semantics.specs.ReferenceScan.{try_case, try_cases, or_previous, new_
 use Rattle.arith.proofs.Basics.{bind_assoc, bind_cong}
 use Rattle.semantics.proofs.Cells.{Agree, not_taken, known_length}
 use Rattle.semantics.proofs.Unique.{eval_c_agree}
-use Rattle.bytecode.specs.Instructions.{Instruction, constant, current, previous, operation, negate, comparison, negated, both, either, gate, pick, timer, encode, encode_all}
+use Rattle.bytecode.specs.Instructions.{Instruction, gate, pick, timer, encode, encode_all}
 use Rattle.bytecode.specs.Translation.{code_e, code_c, code_case, code_k, code_r, code_t, code_rules, depth_e, depth_c, ShallowK, ShallowR, Shallow}
 use Rattle.leb128.proofs.RoundTrip.{drop_behind}
 use Rattle.bytecode.proofs.RoundTrip.{AllSmall, fetch_encoded, length_encode, encoded_inside}

@@ -3,7 +3,7 @@
 ghost use Rattle.std.specs.Prelude.{◌≡◌, false, ◌+◌, ◌≤◌, ◌<◌, length};
 ghost use Rattle.limits.specs.Limits.{stack_limit};
 ghost use Rattle.leb128.specs.Numbers.{number_at};
-ghost use Rattle.leb128.specs.Results.{unsigned_read};
+ghost use Rattle.leb128.specs.Results.{number_read};
 ghost use Rattle.machine.specs.Inner.Memory.{OneEach, RangedIn};
 ghost use Rattle.machine.specs.Inner.Dispatch.{registers, dispatched_of, DispatchedBy, LookaheadBy};
 
@@ -18,23 +18,16 @@ pub enum Dispatched {
     Timed,
 }
 
-// What the comparison that stands at a place finds; or none does.
-#[derive(Clone, Copy)]
-pub enum Lookahead {
-    Truth(bool),
-    Other,
-}
-
 fn wide(x: u8) -> u64
     ensures { result ≡ x }
 {
     x as u64
 }
 
-// The operand of the instruction at a place.
-fn operand(code: &[u8], at: usize) -> leb128::Unsigned
+// The operand of the instruction at a place, and the place behind it.
+fn operand(code: &[u8], at: usize) -> Option<(u64, usize)>
     requires { at < length code.now }
-    ensures { unsigned_read result ≡ number_at code.now (at + 1) }
+    ensures { number_read result ≡ number_at code.now (at + 1) }
 {
     leb128::unsigned_at(code, at + 1)
 }
@@ -75,19 +68,19 @@ fn dispatch_one(
     };
     match byte {
         1 => {
-            let leb128::Unsigned::Number(n, next) = operand(code, at) else {
+            let Some((n, next)) = operand(code, at) else {
                 return Dispatched::Refused(limits::BROKEN_IMAGE);
             };
             onward(next, crate::act(low, high, prev, cur, vals, m, 1, n))
         }
         2 => {
-            let leb128::Unsigned::Number(n, next) = operand(code, at) else {
+            let Some((n, next)) = operand(code, at) else {
                 return Dispatched::Refused(limits::BROKEN_IMAGE);
             };
             onward(next, crate::act(low, high, prev, cur, vals, m, 2, n))
         }
         3 => {
-            let leb128::Unsigned::Number(n, next) = operand(code, at) else {
+            let Some((n, next)) = operand(code, at) else {
                 return Dispatched::Refused(limits::BROKEN_IMAGE);
             };
             onward(next, crate::act(low, high, prev, cur, vals, m, 3, n))
@@ -100,32 +93,32 @@ fn dispatch_one(
         18 => onward(behind, crate::act(low, high, prev, cur, vals, m, 18, 0)),
         19 => onward(behind, crate::act(low, high, prev, cur, vals, m, 19, 0)),
         20 => {
-            let leb128::Unsigned::Number(n, next) = operand(code, at) else {
+            let Some((n, next)) = operand(code, at) else {
                 return Dispatched::Refused(limits::BROKEN_IMAGE);
             };
             onward(next, crate::act(low, high, prev, cur, vals, m, 20, n))
         }
         21 => {
-            let leb128::Unsigned::Number(n, next) = operand(code, at) else {
+            let Some((n, next)) = operand(code, at) else {
                 return Dispatched::Refused(limits::BROKEN_IMAGE);
             };
             onward(next, crate::act(low, high, prev, cur, vals, m, 21, n))
         }
         22 => {
-            let leb128::Unsigned::Number(n, next) = operand(code, at) else {
+            let Some((n, next)) = operand(code, at) else {
                 return Dispatched::Refused(limits::BROKEN_IMAGE);
             };
             onward(next, crate::act(low, high, prev, cur, vals, m, 22, n))
         }
         23 => Dispatched::Timed,
         24 => {
-            let leb128::Unsigned::Number(n, next) = operand(code, at) else {
+            let Some((n, next)) = operand(code, at) else {
                 return Dispatched::Refused(limits::BROKEN_IMAGE);
             };
             onward(next, crate::act(low, high, prev, cur, vals, m, 24, n))
         }
         25 => {
-            let leb128::Unsigned::Number(n, next) = operand(code, at) else {
+            let Some((n, next)) = operand(code, at) else {
                 return Dispatched::Refused(limits::BROKEN_IMAGE);
             };
             onward(next, crate::act(low, high, prev, cur, vals, m, 25, n))
@@ -134,7 +127,8 @@ fn dispatch_one(
     }
 }
 
-// A current or previous value, a constant and a comparison, with operands of one byte, where three instructions may be done.
+// What a current or previous value, a constant and a comparison find, that stand at a place with operands of one byte, where three instructions may be
+// done; or others stand there.
 fn comparison_at(
     code: &[u8],
     prev: &[i32],
@@ -142,52 +136,52 @@ fn comparison_at(
     at: usize,
     held: usize,
     left: usize,
-) -> Lookahead
+) -> Option<bool>
     requires { (at < length code.now) × (held ≤ stack_limit) × (length cur.now ≡ length prev.now) }
     ensures { LookaheadBy code.now prev.now cur.now at held left result }
 {
     let byte = code[at];
     if byte < 2 {
-        return Lookahead::Other;
+        return None;
     }
     if 3 < byte {
-        return Lookahead::Other;
+        return None;
     }
     if code.len() <= at + 4 {
-        return Lookahead::Other;
+        return None;
     }
     if code[at + 2] != 1 {
-        return Lookahead::Other;
+        return None;
     }
     let op = code[at + 4];
     if op < 10 {
-        return Lookahead::Other;
+        return None;
     }
     if 15 < op {
-        return Lookahead::Other;
+        return None;
     }
     if left < 3 {
-        return Lookahead::Other;
+        return None;
     }
     let id = wide(code[at + 1]);
     if 127 < id {
-        return Lookahead::Other;
+        return None;
     }
     let i = id as usize;
     if prev.len() <= i {
-        return Lookahead::Other;
+        return None;
     }
     let n = wide(code[at + 3]);
     if 127 < n {
-        return Lookahead::Other;
+        return None;
     }
     if limits::STACK_LIMIT <= held + 1 {
-        return Lookahead::Other;
+        return None;
     }
     if byte == 3 {
-        return Lookahead::Truth(values::truth(op, prev[i], leb128::unzigzag(n)));
+        return Some(values::truth(op, prev[i], leb128::unzigzag(n)));
     }
-    Lookahead::Truth(values::truth(op, cur[i], leb128::unzigzag(n)))
+    Some(values::truth(op, cur[i], leb128::unzigzag(n)))
 }
 
 // What stands at a place inside the code, of at most `left` instructions: a comparison of a value with a constant at once, else one instruction.
@@ -208,7 +202,7 @@ pub fn dispatch(
     ensures { DispatchedBy code.now (RangedIn low.now high.now) prev.now at (registers held picked false)
         vals.old cur.old vals.new cur.new left result }
 {
-    let Lookahead::Truth(t) = comparison_at(code, prev, cur, at, held, left) else {
+    let Some(t) = comparison_at(code, prev, cur, at, held, left) else {
         return dispatch_one(code, low, high, prev, cur, vals, at, held, picked);
     };
     vals[held] = values::bit_of(t);

@@ -50,7 +50,7 @@ pub fn calculate(vals: &mut [i32], m: Registers, code: u8) -> Stepped
     let left = n - 2;
     let right = n - 1;
     let x = values::calculated(code, vals[left], vals[right]);
-    let arith::Value::Is(v) = x else {
+    let Some(v) = x else {
         return Stepped::Refused(limits::OVERFLOW);
     };
     vals[left] = v;
@@ -93,7 +93,7 @@ pub fn negate(vals: &mut [i32], m: Registers) -> Stepped
     }
     let top = n - 1;
     let x = arith::negated(vals[top]);
-    let arith::Value::Is(v) = x else {
+    let Some(v) = x else {
         return Stepped::Refused(limits::OVERFLOW);
     };
     vals[top] = v;

@@ -5,40 +5,27 @@ ghost use Rattle.machine.specs.Inner.Passing.{over_of, OverTo, PassedBy, BeyondB
 
 use crate::timer;
 
-// Whether instructions are still passed over, the place behind those that were, and how many they are; or the first is broken.
-#[derive(Clone, Copy)]
-pub enum Passing {
-    On(bool, usize, usize),
-    Broken,
-}
-
-// The place behind one of the codes 1 to 19; or it is another.
-#[derive(Clone, Copy)]
-enum Beyond {
-    Place(usize),
-    Other,
-}
-
-// The place behind such codes, and how many they are.
+// The place behind codes 1 to 19, and how many they are.
 #[derive(Clone, Copy)]
 pub struct Along {
     pub at: usize,
     pub steps: usize,
 }
 
-// An instruction with an operand.
-fn over(code: &[u8], at: usize, passing: bool) -> Passing
+// An instruction with an operand. Here and below: whether instructions are still passed over, the place behind those that were, and how many they are;
+// or the first is broken.
+fn over(code: &[u8], at: usize, passing: bool) -> Option<(bool, usize, usize)>
     requires { at < length code.now }
     ensures { result ≡ over_of passing (number_at code.now (at + 1)) }
 {
-    let leb128::Unsigned::Number(_, next) = leb128::unsigned_at(code, at + 1) else {
-        return Passing::Broken;
+    let Some((_, next)) = leb128::unsigned_at(code, at + 1) else {
+        return None;
     };
-    Passing::On(passing, next, 1)
+    Some((passing, next, 1))
 }
 
 // One instruction: a pick ends it.
-fn pass_over(code: &[u8], at: usize) -> Passing
+fn pass_over(code: &[u8], at: usize) -> Option<(bool, usize, usize)>
     requires { at < length code.now }
     ensures { PassedBy code.now at 1 result }
 {
@@ -48,30 +35,31 @@ fn pass_over(code: &[u8], at: usize) -> Passing
         24 => over(code, at, false),
         25 => over(code, at, false),
         1..=3 => over(code, at, true),
-        4..=19 => Passing::On(true, at + 1, 1),
+        4..=19 => Some((true, at + 1, 1)),
         21..=22 => over(code, at, true),
-        _ => Passing::Broken,
+        _ => None,
     }
 }
 
-fn past(code: &[u8], at: usize) -> Beyond
+// The place behind one of the codes 1 to 19; or it is another.
+fn past(code: &[u8], at: usize) -> Option<usize>
     requires { at < length code.now }
     ensures { BeyondBy code.now at result }
 {
     let byte = code[at];
     if 19 < byte {
-        return Beyond::Other;
+        return None;
     }
     if 3 < byte {
-        return Beyond::Place(at + 1);
+        return Some(at + 1);
     }
     if byte == 0 {
-        return Beyond::Other;
+        return None;
     }
-    let leb128::Unsigned::Number(_, next) = leb128::unsigned_at(code, at + 1) else {
-        return Beyond::Other;
+    let Some((_, next)) = leb128::unsigned_at(code, at + 1) else {
+        return None;
     };
-    Beyond::Place(next)
+    Some(next)
 }
 
 // As many such codes as stand here, at most `left`: a loop that keeps two numbers.
@@ -85,7 +73,7 @@ fn pass_along(code: &[u8], from: usize, left: usize) -> Along
         if code.len() <= at {
             break;
         }
-        let Beyond::Place(next) = past(code, at) else {
+        let Some(next) = past(code, at) else {
             break;
         };
         at = next;
@@ -95,7 +83,7 @@ fn pass_along(code: &[u8], from: usize, left: usize) -> Along
 }
 
 // At most `left` instructions: those up to the pick, and the pick. Where one behind the first is broken, those before it.
-fn pass_on(code: &[u8], at: usize, left: usize) -> Passing
+fn pass_on(code: &[u8], at: usize, left: usize) -> Option<(bool, usize, usize)>
     requires { (at < length code.now) × (0 < left) }
     ensures { PassedBy code.now at left result }
 {
@@ -103,27 +91,32 @@ fn pass_on(code: &[u8], at: usize, left: usize) -> Passing
     let behind = along.at;
     let steps = along.steps;
     if left <= steps {
-        return Passing::On(true, behind, steps);
+        return Some((true, behind, steps));
     }
     if code.len() <= behind {
-        return Passing::On(true, behind, steps);
+        return Some((true, behind, steps));
     }
-    let Passing::On(p, next, n) = pass_over(code, behind) else {
+    let Some((p, next, n)) = pass_over(code, behind) else {
         if steps == 0 {
-            return Passing::Broken;
+            return None;
         }
-        return Passing::On(true, behind, steps);
+        return Some((true, behind, steps));
     };
-    Passing::On(p, next, steps + n)
+    Some((p, next, steps + n))
 }
 
 // Where instructions are passed over, up to the pick; else none.
-pub fn pass_first(code: &[u8], at: usize, passing: bool, left: usize) -> Passing
+pub fn pass_first(
+    code: &[u8],
+    at: usize,
+    passing: bool,
+    left: usize,
+) -> Option<(bool, usize, usize)>
     requires { (at < length code.now) × (0 < left) }
     ensures { FirstBy code.now at passing left result }
 {
     if passing {
         return pass_on(code, at, left);
     }
-    Passing::On(false, at, 0)
+    Some((false, at, 0))
 }

@@ -11,7 +11,6 @@ ghost use Rattle.machine.specs.Inner.Dispatch.{registers, WorkedBy};
 ghost use Rattle.machine.specs.Inner.Passing.{PassedBy};
 
 use crate::Timing;
-use crate::passing::Passing;
 
 // The place of t's elapsed time: behind the names, by timer id.
 fn place(timing: Timing, t: usize) -> usize
@@ -90,45 +89,30 @@ fn work(prev: &[i32], cur: &mut [i32], timing: Timing, t: u64, w: u64, n: u64) -
     true
 }
 
-// The place behind a timer that was worked; or it is broken.
-#[derive(Clone, Copy)]
-pub enum Worked {
-    Behind(usize),
-    Broken,
-}
-
-// The 23 at a place, at work.
-pub fn run(code: &[u8], prev: &[i32], cur: &mut [i32], timing: Timing, at: usize) -> Worked
+// The 23 at a place, at work, and the place behind it; or it is broken.
+pub fn run(code: &[u8], prev: &[i32], cur: &mut [i32], timing: Timing, at: usize) -> Option<usize>
     requires { (at < length code.now) × (get_or code.now at 0 ≡ 23) × (length cur.old ≡ length prev.now) }
     ensures { (held : ℕ) (picked : Bool) (low high vals : List ℤ) → held ≤ stack_limit → length low ≡ length prev.now
         → WorkedBy code.now (SettingIn low high timing) prev.now at (registers held picked false) vals cur.old cur.new result }
 {
-    let f = bytecode::fetch(code, at);
-    match f {
+    match bytecode::fetch(code, at)? {
         bytecode::Fetched::Timer(t, w, n, next) => {
             if work(prev, cur, timing, t, w, n) {
-                return Worked::Behind(next);
+                return Some(next);
             }
-            Worked::Broken
+            None
         }
-        bytecode::Fetched::Instruction(_, _, _) => Worked::Broken,
-        bytecode::Fetched::Malformed => Worked::Broken,
+        bytecode::Fetched::Instruction(_, _, _) => None,
     }
 }
 
 // The 23 at a place, passed over: its operands are read, here and not by `fetch`, so that a run calls nothing.
-pub fn pass(code: &[u8], at: usize) -> Passing
+pub fn pass(code: &[u8], at: usize) -> Option<(bool, usize, usize)>
     requires { (at < length code.now) × (get_or code.now at 0 ≡ 23) }
     ensures { PassedBy code.now at 1 result }
 {
-    let leb128::Unsigned::Number(_, second) = leb128::unsigned_at(code, at + 1) else {
-        return Passing::Broken;
-    };
-    let leb128::Unsigned::Number(_, third) = leb128::unsigned_at(code, second) else {
-        return Passing::Broken;
-    };
-    let leb128::Unsigned::Number(_, next) = leb128::unsigned_at(code, third) else {
-        return Passing::Broken;
-    };
-    Passing::On(true, next, 1)
+    let (_, second) = leb128::unsigned_at(code, at + 1)?;
+    let (_, third) = leb128::unsigned_at(code, second)?;
+    let (_, next) = leb128::unsigned_at(code, third)?;
+    Some((true, next, 1))
 }

@@ -52,7 +52,7 @@ fn exact(code: u8, a: i32, b: i32) -> i64
 }
 
 // Codes 4 to 8.
-pub fn calculated(code: u8, a: i32, b: i32) -> arith::Value
+pub fn calculated(code: u8, a: i32, b: i32) -> Option<i32>
     ensures { outcome_of result ≡ arithmetic (operation_of code) a b }
 {
     arith::narrow(exact(code, a, b))

@@ -17,9 +17,8 @@ use Rattle.semantics.specs.Shape.{has_timer, timers_of, state_length, all_within
 use Rattle.semantics.proofs.Counted.{state_length_lem, starting_state_lem}
 use Rattle.bytecode.specs.Check.{check_header, check_of}
 use Rattle.bytecode.specs.Parts.{header_of, limits_of, shape_in, starts}
-use Rattle.bytecode.specs.declared.Headed.{Headed}
-use Rattle.bytecode.specs.declared.Headed.TheVariants as H
-use Rattle.bytecode.specs.Results.{HeadedBy}
+use Rattle.std.specs.Prelude.{Ok, Err}
+use Rattle.bytecode.specs.Results.{Headed, HeadedBy}
 use Rattle.bytecode.proofs.Walk.{refused≢accepted}
 use Rattle.bytecode.proofs.SoundHeader.{starts_stored, header_not_broken}
 use Rattle.bytecode.proofs.ImageLimits.{timers_most}
@@ -65,8 +64,8 @@ cleared l n m h k =
 module _ (image : List ℕ) (found : State) (sound : check_of image ≡ accepted tt) where
   -- a header of a sound image is whole
   pub headed_starts : {n : ℕ} {low₀ high₀ low high left : List ℤ} (r : Headed) → HeadedBy (check_header image) n low₀ high₀ found low high left r → left ≡ sets found 0 (starts (header_of image).ranges)
-  headed_starts (H.Header inputs names place) x = starts_stored image x.so
-  headed_starts (H.Broken place) x = header_not_broken image sound place x.so.0
+  headed_starts (Ok (inputs, names, place)) x = starts_stored image x.so
+  headed_starts (Err place) x = header_not_broken image sound place x.so.0
 
   -- the declared starts are stored at the front of the state, zeros behind them
   pub start_done : (names : ℕ) (filled left : State) → length found ≡ state_length (shape_in image) → length (header_of image).ranges ≡ names → filled ≡ sets found 0 (starts (header_of image).ranges)

@@ -16,7 +16,6 @@ ghost use Rattle.scan.specs.Services.{start_of, refused_scan, scan_of};
 ghost use Rattle.scan.specs.Results.{after_start, StartedWithin, after_scan, ScannedWithin};
 ghost use Rattle.scan.specs.Inner.Parts.{ran_over, scanned_over, KnownHeader, StartedFor};
 
-use bytecode::Headed;
 use checker::Surveyed;
 use fused::Ended;
 use limits::Refusal;
@@ -246,8 +245,8 @@ fn scan_in(
         return refused(Refusal::TooLong);
     }
     match bytecode::header(image, low, high, work) {
-        Headed::Broken(place) => refused(Refusal::BrokenImage(place)),
-        Headed::Header(inputs, names, place) => {
+        Err(place) => refused(Refusal::BrokenImage(place)),
+        Ok((inputs, names, place)) => {
             if state.len() != names {
                 return after_check(image, state, row, Refusal::WrongLength);
             }
@@ -311,7 +310,8 @@ pub fn start_shape(
     let m = before::shape_for(image, state.len(), low, high)?;
     let mut lows = [0i32; 1];
     let mut highs = [0i32; 1];
-    bytecode::header(image, &mut lows, &mut highs, state);
+    // `shape_for` found the image sound, so this stores the starts
+    let _ = bytecode::header(image, &mut lows, &mut highs, state);
     clear(state, m.names);
     Ok(m)
 }

@@ -93,8 +93,8 @@ fn shape_times(
 {
     let mut start = [0i32; 1];
     match bytecode::header(image, low, high, &mut start) {
-        bytecode::Headed::Broken(place) => Err(Refusal::BrokenImage(place)),
-        bytecode::Headed::Header(inputs, names, place) => {
+        Err(place) => Err(Refusal::BrokenImage(place)),
+        Ok((inputs, names, place)) => {
             let t = measure_times(&image[place..], &mut table[..names], low, high);
             Ok(Measured {
                 inputs,
@@ -123,8 +123,8 @@ fn shape_plain(image: &[u8], low: &mut [i32], high: &mut [i32]) -> Result<Measur
 {
     let mut start = [0i32; 1];
     match bytecode::header(image, low, high, &mut start) {
-        bytecode::Headed::Broken(place) => Err(Refusal::BrokenImage(place)),
-        bytecode::Headed::Header(inputs, names, place) => Ok(Measured {
+        Err(place) => Err(Refusal::BrokenImage(place)),
+        Ok((inputs, names, place)) => Ok(Measured {
             inputs,
             names,
             size: names,

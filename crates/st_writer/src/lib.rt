@@ -121,14 +121,14 @@ pub fn mirror(code: &[u8], out: &mut [u8])
     // a `while`: the place moves on by an instruction's length, which is known when it is read
     while at < code.len() {
         match bytecode::fetch(code, at) {
-            bytecode::Fetched::Instruction(_, _, next) => {
+            Some(bytecode::Fetched::Instruction(_, _, next)) => {
                 to = bytes_before(out, to, &code[at..next]);
                 at = next;
             }
-            bytecode::Fetched::Timer(_, _, _, _) => {
+            Some(bytecode::Fetched::Timer(_, _, _, _)) => {
                 return;
             }
-            bytecode::Fetched::Malformed => {
+            None => {
                 return;
             }
         }

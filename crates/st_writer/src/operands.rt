@@ -62,7 +62,7 @@ fn leaf(
         out.old out.new to result.next result.to }
 {
     let u = leb128::unsigned_at(code, at);
-    let leb128::Unsigned::Number(n, next) = u else {
+    let Some((n, next)) = u else {
         return Stretch { next: at, to };
     };
     let first = value_before(text, starts, ends, count, op, n, out, to);

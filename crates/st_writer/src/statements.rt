@@ -29,7 +29,7 @@ fn assignment(
         out.old out.new to result.next result.to }
 {
     let u = leb128::unsigned_at(code, at);
-    let leb128::Unsigned::Number(v, behind) = u else {
+    let Some((v, behind)) = u else {
         return Stretch { next: at, to };
     };
     let end = crate::bytes_before(out, to, b";\n");
@@ -147,7 +147,7 @@ fn rule(
         return assignment(text, starts, ends, count, code, behind, out, to);
     }
     let u = leb128::unsigned_at(code, behind);
-    let leb128::Unsigned::Number(_, first) = u else {
+    let Some((_, first)) = u else {
         return Stretch { next: behind, to };
     };
     let end = crate::bytes_before(out, to, b"END_IF;\n");

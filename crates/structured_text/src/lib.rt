@@ -14,7 +14,6 @@ ghost use Rattle.structured_text.specs.Services.{structured_text_of};
 ghost use Rattle.structured_text.specs.Results.{after_writing, WrittenWithin};
 ghost use Rattle.structured_text.specs.Inner.Prepared.{whole_printed, Compiled, ReadyToPrint};
 
-use bytecode::Headed;
 use limits::Refusal;
 
 pub mod reserved;
@@ -122,7 +121,7 @@ fn write_image(
     ensures written_within { WrittenWithin result }
 {
     let headed = bytecode::header(image, low, high, values);
-    let Headed::Header(inputs, count, place) = headed else {
+    let Ok((inputs, count, place)) = headed else {
         return Err(Refusal::BrokenImage(0));
     };
     if !reserved::has_st(text, starts, ends, count, timers) {

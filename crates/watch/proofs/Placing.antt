@@ -1,4 +1,6 @@
 -- A place where a watch fails is a place of the trace, and so a number that a report has room for. Assumes nothing.
+use Rattle.std.specs.Prelude as O
+use Rattle.std.specs.Prelude.{Some, None}
 use mathlib.Core.Path.{◌≡◌, refl, ap, sym}
 use mathlib.Core.Bool.{true}
 use mathlib.Core.List.{List, [], ◌∷◌}
@@ -17,8 +19,6 @@ use Rattle.watching.specs.Watching.{places_of, first_failure}
 use Rattle.watching.specs.Failing.{FailsBy}
 use Rattle.watching.proofs.Laws.{reported_first}
 use Rattle.lent.proofs.Laws.{trace_whole}
-use Rattle.evaluation.specs.declared.Failed.{Failed}
-use Rattle.evaluation.specs.declared.Failed.TheVariants.{At, Never}
 use Rattle.evaluation.specs.Walks.{failed_at}
 use Rattle.watch.specs.Inner.Reports.{FailedWithin}
 
@@ -52,8 +52,8 @@ one_place size cells z = rw (eq-eqb size 0 z) (omega arith)
 pub places_small : (size : ℕ) (cells : List ℤ) → is_trace size cells ≡ true → places_in size cells ≤ length cells + 1
 places_small size cells e = places_few size (places_in size cells) (length cells) (trace_whole size cells e).all (one_place size cells)
 
-pub failed_within : (w : Watch) (places size : ℕ) (cells : List ℤ) (r : Failed) → places < 2 ^ 63 → failed_at r ≡ first_failure w (places_of (states_of places size cells)) → FailedWithin r
-failed_within w places size cells (At n) h e =
+pub failed_within : (w : Watch) (places size : ℕ) (cells : List ℤ) (r : O.Option ℕ) → places < 2 ^ 63 → failed_at r ≡ first_failure w (places_of (states_of places size cells)) → FailedWithin r
+failed_within w places size cells (Some n) h e =
     let f = (reported_first w (states_of places size cells) n (sym e)).fails in
     omega (arith, h, fails_in w.first w.later (states_of places size cells) n f, states_counted places size cells)
-failed_within w places size cells Never h e = tt
+failed_within w places size cells None h e = tt

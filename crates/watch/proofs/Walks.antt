@@ -1,4 +1,5 @@
 -- A watch walked alone or paired, by its code. Assumes nothing.
+use Rattle.std.specs.Prelude as O
 use mathlib.Core.Path.{◌≡◌, ap}
 use mathlib.Core.List.{List}
 use mathlib.Core.Option.{Option, none, some}
@@ -9,11 +10,10 @@ use lib.Seq.{length-take-le}
 use Rattle.semantics.specs.Program.{Condition}
 use Rattle.watching.specs.Watching.{TracePlace, first_failure}
 use Rattle.evaluation.specs.Conditions.{ConditionCode}
-use Rattle.evaluation.specs.declared.Failed.{Failed}
 use Rattle.evaluation.specs.Walks.{failed_at}
 use Rattle.watch.specs.Inner.Reports.{LaterCode}
 
-module _ (size middle end : ℕ) (code : List ℕ) (xs : List TracePlace) (r : Failed) where
+module _ (size middle end : ℕ) (code : List ℕ) (xs : List TracePlace) (r : O.Option ℕ) where
   pub walk_alone_of : (c : Condition) (o : Option Condition) → ConditionCode c size (take middle code) → LaterCode o size (take (end - middle) (drop middle code)) → middle ≡ end
       → ((c : Condition) → ConditionCode c size (take middle code) → failed_at r ≡ first_failure (record { first = c; later = none }) xs)
       → failed_at r ≡ first_failure (record { first = c; later = o }) xs

@@ -16,17 +16,16 @@ ghost use Rattle.watch.specs.Services.{reported as reportedOf, report_of, watch_
 ghost use Rattle.watch.specs.Results.{after_watch, WatchedWithin};
 ghost use Rattle.watch.specs.Inner.Reports.{FailedWithin, WatchCode, CountedWatches};
 
-use evaluation::Failed;
 use limits::Refusal;
 
 // What is reported: the place, or -1 where the watch has not failed.
-fn reported(failed: Failed) -> i64
+fn reported(failed: Option<usize>) -> i64
     requires { FailedWithin failed }
     ensures { result ≡ reportedOf (failed_at failed) }
 {
     match failed {
-        Failed::At(place) => place as i64,
-        Failed::Never => -1,
+        Some(place) => place as i64,
+        None => -1,
     }
 }
 
@@ -39,7 +38,7 @@ fn walk(
     size: usize,
     places: usize,
     vals: &mut [i32],
-) -> Failed
+) -> Option<usize>
     requires middle_le_end { (middle ≤ end) × (end ≤ length code.now) }
     requires stack_limit_in_bounds { (stack_limit ≤ length vals.old) × (places * size ≡ length trace.now) }
     ensures { (w : Watch) → WatchCode w size middle end code.now → failed_at result ≡ first_failure w (places_of (states_of places size trace.now)) }

@@ -1,12 +1,10 @@
 -- Several instructions at once: as many steps of the walk, one after the other. Auxiliary definitions for proofs. Assumes nothing.
-use Rattle.std.specs.Prelude.{ℕ, ◌+◌, ◌*◌, ◌≤◌, ◌≡◌, List, length}
+use Rattle.std.specs.Prelude.{ℕ, ◌+◌, ◌*◌, ◌≤◌, ◌≡◌, List, length, Option, Some, None}
 use Rattle.std.proofs.Math.Option.{some}
 use Rattle.leb128.specs.Numbers.{got}
 use Rattle.bytecode.specs.Instructions.{Instruction, fetch_one}
 use Rattle.bytecode.specs.Check.{Known, advance}
 use Rattle.checker.specs.declared.advance.Walk.{Walk}
-use Rattle.checker.specs.declared.ahead.Stretch.{Stretch}
-use Rattle.checker.specs.declared.ahead.Stretch.TheVariants as T
 use Rattle.checker.specs.Inner.Walk.{known_of, Small}
 use Rattle.checker.specs.Results.{BreaksUnlessTimed}
 
@@ -38,6 +36,7 @@ pub record LeadsTo (code : List ℕ) (at : ℕ) (w : Walk) (next : ℕ) (k : Wal
   pub inside : next ≤ length code
   pub small : Small k
 
-abbrev pub TakenBy : List ℕ → ℕ → Walk → Stretch → Type 0
-TakenBy code at w (T.Taken k next) = LeadsTo code at w next k
-TakenBy code at w T.Broken = BreaksUnlessTimed code at (known_of w)
+-- the walk and the place behind instructions; or the first of them breaks soundness or is a timer
+abbrev pub TakenBy : List ℕ → ℕ → Walk → Option (Walk × ℕ) → Type 0
+TakenBy code at w (Some (k, next)) = LeadsTo code at w next k
+TakenBy code at w None = BreaksUnlessTimed code at (known_of w)

@@ -1,5 +1,7 @@
 -- The walk's numbers, and what they stand for in the definition of soundness: auxiliary definitions for proofs. Assumes nothing.
 use Rattle.std.specs.Prelude.{ℕ, zero, suc, ◌-◌, ◌/◌, ◌%◌, ◌^◌, ◌≤◌, ◌<◌, Bool, true, false, List, [], ◌∷◌}
+use Rattle.std.specs.Prelude as O
+use Rattle.std.specs.Prelude.{Some, None}
 use Rattle.std.proofs.Math.Option.{Option, none, some}
 use Rattle.limits.specs.Limits.{stack_limit, name_limit}
 use Rattle.arith.specs.Inner.Flags.{flags_of}
@@ -8,8 +10,6 @@ use Rattle.bytecode.specs.Instructions.{Instruction}
 use Rattle.bytecode.specs.Signature.{Sort, number, truth, pushes}
 use Rattle.bytecode.specs.Check.{Picks, Known, known, one, admits, advance}
 use Rattle.checker.specs.declared.advance.Walk.{Walk}
-use Rattle.checker.specs.declared.advance.Advanced.{Advanced}
-use Rattle.checker.specs.declared.advance.Advanced.TheVariants.{Kept, Broken}
 
 -- ---- what the numbers stand for
 
@@ -43,9 +43,13 @@ picks_of (suc n) = some (record { side = side_of (n % 3); id = n / 3 })
 abbrev pub known_of : Walk → Known
 known_of w = known (sorts_of w.held w.sorts) (open_of w.gate) (picks_of w.picking) (flags_of w.names w.known)
 
+-- what an instruction leads to: the walk behind it, or nothing where it breaks soundness
+abbrev pub Advanced : Type 0
+Advanced = O.Option Walk
+
 abbrev pub advanced_known : Advanced → Option Known
-advanced_known (Kept w) = some (known_of w)
-advanced_known Broken = none
+advanced_known (Some w) = some (known_of w)
+advanced_known None = none
 
 -- before the first instruction: nothing held, no gate, no picks; the inputs known
 abbrev pub initial_walk : ℕ → ℕ → Walk
@@ -60,8 +64,8 @@ pub record Small (w : Walk) : Type 0 where
   pub known_low : w.known < 2 ^ w.names
 
 abbrev pub SmallAfter : Advanced → Type 0
-SmallAfter (Kept w) = Small w
-SmallAfter Broken = Unit {0}
+SmallAfter (Some w) = Small w
+SmallAfter None = Unit {0}
 
 -- ---- the parts of `advance`
 

@@ -1,5 +1,5 @@
 -- Instructions that put a value on top or work on those on top, and a gate on a no. Auxiliary definitions for proofs. Assumes nothing.
-use Rattle.std.specs.Prelude.{◌≡◌, Bool, true, false, ◌⊎◌, List, ℕ, ◌+◌, ◌%◌, ◌≤◌, ℤ, pos, length, get_or}
+use Rattle.std.specs.Prelude.{◌≡◌, Bool, true, false, ◌⊎◌, List, ℕ, ◌+◌, ◌%◌, ◌≤◌, ℤ, pos, length, get_or, Option, Some, None}
 use Rattle.semantics.specs.Formula.{State}
 use Rattle.semantics.specs.Shape.{Setting}
 use Rattle.leb128.specs.Numbers.{got}
@@ -11,29 +11,31 @@ use Rattle.checker.specs.Inner.Walk.{known_of, open_of, sort_of, pushed, joined,
 use Rattle.machine.specs.Step.{yes, push, perform}
 use Rattle.machine.specs.Inner.Groups.{truth_of, related}
 use Rattle.fused.specs.declared.Progress.{Progress}
-use Rattle.fused.specs.declared.act.Acted.{Acted}
-use Rattle.fused.specs.declared.act.Acted.TheVariants as A
 use Rattle.fused.specs.Inner.Passes.{Ready}
 use Rattle.fused.specs.Inner.Leaps.{Goes}
 
+-- the progress behind instructions that are done, and how many they are; or it is another
+abbrev pub Acted : Type 0
+Acted = Option (Progress × ℕ)
+
 -- one instruction, with the walk and the place behind it
 abbrev pub done_of : Progress → Walk → ℕ → Acted
-done_of b k next = A.On (record { walk = k; at = next; picked = b.picked; passing = false }) 1
+done_of b k next = Some (record { walk = k; at = next; picked = b.picked; passing = false }, 1)
 
 -- so many are done, and the current values stay; or none is, and what is held stays too
 abbrev pub ActedBy : List ℕ → List ℤ → List ℤ → List ℤ → Progress → List ℤ → List ℤ → List ℤ → Acted → Type 0
-ActedBy code low high prev b vals cur vals₁ (A.On k n) = (k.passing ≡ false) × Goes code low high prev n b vals cur k vals₁ cur
-ActedBy code low high prev b vals cur vals₁ A.Other = vals₁ ≡ vals
+ActedBy code low high prev b vals cur vals₁ (Some (k, n)) = (k.passing ≡ false) × Goes code low high prev n b vals cur k vals₁ cur
+ActedBy code low high prev b vals cur vals₁ None = vals₁ ≡ vals
 
 -- one is done, or none
 abbrev pub ActedOnce : List ℕ → List ℤ → List ℤ → List ℤ → Progress → List ℤ → List ℤ → List ℤ → Acted → Type 0
-ActedOnce code low high prev b vals cur vals₁ (A.On k n) = (n ≡ 1) × (k.passing ≡ false) × Goes code low high prev 1 b vals cur k vals₁ cur
-ActedOnce code low high prev b vals cur vals₁ A.Other = vals₁ ≡ vals
+ActedOnce code low high prev b vals cur vals₁ (Some (k, n)) = (n ≡ 1) × (k.passing ≡ false) × Goes code low high prev 1 b vals cur k vals₁ cur
+ActedOnce code low high prev b vals cur vals₁ None = vals₁ ≡ vals
 
 -- the walk's numbers stay small
 abbrev pub SmallOn : Acted → Type 0
-SmallOn (A.On k n) = Small k.walk
-SmallOn A.Other = Unit {0}
+SmallOn (Some (k, n)) = Small k.walk
+SmallOn None = Unit {0}
 
 -- this instruction is at hand, with this place behind it, and is not passed over
 pub record AtHand (code : List ℕ) (low high prev cur vals : List ℤ) (b : Progress) (i : Instruction) (next : ℕ) : Type 0 where

@@ -1,5 +1,5 @@
 -- Several instructions at once: as many steps of walk and machine, one after the other. Auxiliary definitions for proofs. Assumes nothing.
-use Rattle.std.specs.Prelude.{◌≡◌, Bool, true, false, ◌⊎◌, List, ◌∷◌, ℕ, ◌+◌, ◌≤◌, ◌<◌, ℤ, length, get_or}
+use Rattle.std.specs.Prelude.{◌≡◌, Bool, true, false, ◌⊎◌, List, ◌∷◌, ℕ, ◌+◌, ◌≤◌, ◌<◌, ℤ, length, get_or, Option, Some, None}
 use Rattle.std.proofs.Math.Option.{some}
 use Rattle.limits.specs.Limits.{stack_limit}
 use Rattle.arith.specs.Values.{ok}
@@ -17,12 +17,6 @@ use Rattle.fused.specs.declared.Moved.{Moved}
 use Rattle.fused.specs.declared.Moved.TheVariants as M
 use Rattle.fused.specs.declared.ahead.Leap.{Leap}
 use Rattle.fused.specs.declared.ahead.Leap.TheVariants as L
-use Rattle.fused.specs.declared.ahead.Seen.{Seen}
-use Rattle.fused.specs.declared.ahead.Seen.TheVariants as N
-use Rattle.fused.specs.declared.ahead.Skipped.{Skipped}
-use Rattle.fused.specs.declared.ahead.Skipped.TheVariants as K
-use Rattle.fused.specs.declared.ahead.Settled.{Settled}
-use Rattle.fused.specs.declared.ahead.Settled.TheVariants as T
 use Rattle.fused.specs.Inner.Passes.{Ready, Strides, Moves, Refuses, BreaksAt}
 
 -- ---- what stands ahead
@@ -36,9 +30,13 @@ pub record MadeOf (w : Walk) (byte : ℕ) (a b v : ℤ) (sort : ℕ) : Type 0 wh
   pub moved : advance acting (known_of (with_number (with_number w))) ≡ some (known_of (with_sort w sort))
   pub worked : (ns : Setting) (s t : State) (c : Bool) (vs : List ℤ) → perform ns s acting c (b ∷ a ∷ vs) t ≡ ok (machine false c (v ∷ vs) t)
 
+-- what two numbers make, and its sort; or nothing is seen
+abbrev pub Seen : Type 0
+Seen = Option (ℤ × ℕ)
+
 abbrev pub FoundBy : Walk → ℕ → ℤ → ℤ → Seen → Type 0
-FoundBy w byte a b (N.Value v sort) = MadeOf w byte a b v sort
-FoundBy w byte a b N.Other = Unit {0}
+FoundBy w byte a b (Some (v, sort)) = MadeOf w byte a b v sort
+FoundBy w byte a b None = Unit {0}
 
 -- An instruction that puts x on top, a constant, and one that makes v of the two; there is room for both values.
 pub record PairSeen (code : List ℕ) (prev cur : List ℤ) (at : ℕ) (w : Walk) (v : ℤ) (sort : ℕ) : Type 0 where
@@ -54,8 +52,8 @@ pub record PairSeen (code : List ℕ) (prev cur : List ℤ) (at : ℕ) (w : Walk
   pub made : MadeOf w (get_or code (at + 4) 0) x (unzigzag (get_or code (at + 3) 0)) v sort
 
 abbrev pub SeenBy : List ℕ → List ℤ → List ℤ → ℕ → Walk → Seen → Type 0
-SeenBy code prev cur at w (N.Value v sort) = PairSeen code prev cur at w v sort
-SeenBy code prev cur at w N.Other = Unit {0}
+SeenBy code prev cur at w (Some (v, sort)) = PairSeen code prev cur at w v sort
+SeenBy code prev cur at w None = Unit {0}
 
 -- ---- what is passed over
 
@@ -69,9 +67,13 @@ pub record Skips (code : List ℕ) (w : Walk) (at : ℕ) (k : Walk) (next : ℕ)
   pub no_pick : is_pick stride.instruction ≡ false
   pub same_gate : k.gate ≡ w.gate
 
+-- how many values are held behind one, and the place behind it; or it is another
+abbrev pub Skipped : Type 0
+Skipped = Option (ℕ × ℕ)
+
 abbrev pub SkippedBy : List ℕ → Walk → ℕ → ℕ → Skipped → Type 0
-SkippedBy code w held at (K.Over more next) = Skips code (with_held w held) at (with_held w more) next
-SkippedBy code w held at K.Other = Unit {0}
+SkippedBy code w held at (Some (more, next)) = Skips code (with_held w held) at (with_held w more) next
+SkippedBy code w held at None = Unit {0}
 
 -- so many of them
 pub data SkipsTo (code : List ℕ) (w : Walk) (at : ℕ) : ℕ → Walk → ℕ → Type 0 where
@@ -80,10 +82,10 @@ pub data SkipsTo (code : List ℕ) (w : Walk) (at : ℕ) : ℕ → Walk → ℕ 
 
 -- ---- a settle
 
--- what is held stays
-abbrev pub SettledBy : List ℕ → List ℤ → Progress → List ℤ → List ℤ → Settled → Type 0
-SettledBy code prev b cur cur₁ (T.On k) = (low high vals : List ℤ) → Ready low high prev cur vals b → Moves code low high prev b vals cur vals cur₁ k
-SettledBy code prev b cur cur₁ T.Other = cur₁ ≡ cur
+-- the progress behind it, or none stands there; what is held stays
+abbrev pub SettledBy : List ℕ → List ℤ → Progress → List ℤ → List ℤ → Option Progress → Type 0
+SettledBy code prev b cur cur₁ (Some k) = (low high vals : List ℤ) → Ready low high prev cur vals b → Moves code low high prev b vals cur vals cur₁ k
+SettledBy code prev b cur cur₁ None = cur₁ ≡ cur
 
 -- ---- what is done
 

@@ -1,5 +1,5 @@
 -- What the walk and the machine do together on one instruction, and over the code: auxiliary definitions for proofs. Assumes nothing.
-use Rattle.std.specs.Prelude.{◌≡◌, Bool, true, false, not, cond, List, [], ℕ, ◌+◌, ◌≤◌, ℤ, length, get_or}
+use Rattle.std.specs.Prelude.{◌≡◌, Bool, true, false, not, cond, List, [], ℕ, ◌+◌, ◌≤◌, ℤ, length, get_or, Some, None}
 use Rattle.std.proofs.Math.Option.{none, some}
 use Rattle.limits.specs.Limits.{stack_limit, broken_image}
 use Rattle.limits.specs.Answer.{accepted, refused}
@@ -11,10 +11,8 @@ use Rattle.bytecode.specs.Instructions.{Instruction, fetch_one}
 use Rattle.bytecode.specs.Check.{known, advance, check_code}
 use Rattle.bytecode.specs.Inner.Timers.{NoTimers}
 use Rattle.checker.specs.declared.advance.Walk.{Walk}
-use Rattle.checker.specs.declared.advance.Advanced.{Advanced}
-use Rattle.checker.specs.declared.advance.Advanced.TheVariants.{Kept, Broken}
 use Rattle.checker.specs.declared.Verdict.TheVariants as J
-use Rattle.checker.specs.Inner.Walk.{known_of, open_of, Small}
+use Rattle.checker.specs.Inner.Walk.{Advanced, known_of, open_of, Small}
 use Rattle.checker.specs.Results.{Judges, BreaksUnlessTimed}
 use Rattle.machine.specs.declared.Registers.{Registers}
 use Rattle.machine.specs.declared.Stepped.{Stepped}
@@ -36,8 +34,8 @@ registers_of b = record { held = cond b.passing 0 b.walk.held; picked = b.picked
 
 -- an instruction that is passed over: only the walk moves
 abbrev pub passed_over : Progress → ℕ → Bool → Advanced → Moved
-passed_over b next passing (Kept k) = M.On (record { walk = k; at = next; picked = b.picked; passing = passing })
-passed_over b next passing Broken = M.Broken
+passed_over b next passing (Some k) = M.On (record { walk = k; at = next; picked = b.picked; passing = passing })
+passed_over b next passing None = M.Broken
 
 -- the walk behind an instruction, and how the machine's step ended
 abbrev pub moved_of : Walk → ℕ → Stepped → Moved

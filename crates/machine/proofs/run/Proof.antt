@@ -75,7 +75,7 @@ loop-again : tie.Need-loop-done-preserved invariant_loop decreases_loop
 loop-again c =
     let a = c.args in
     let g = reached c.loop-done.invariant (named_in a.low.now a.high.now a.timing) c.run_untimed-ran.ensures c.in-Next.k c.in-Next.is c.run_untimed-ran.auto.vals c.run_untimed-ran.auto.cur in
-    timer_on g (at_timer c.loop-done.invariant (named_in a.low.now a.high.now a.timing) c.run_untimed-ran.ensures c.in-Next.k c.in-Next.is (omega (arith, c.if-budget-steps.false)) (omega (arith, c.if-code-place.false))).1 (omega (arith, c.if-budget-steps.false)) _ c.run.result (c.run.ensures c.in-Next.k.held c.in-Next.k.picked a.low.now a.high.now _ g.stack.few (sym g.named.previous)) _ c.in-Behind.is c.run.auto.cur
+    timer_on g (at_timer c.loop-done.invariant (named_in a.low.now a.high.now a.timing) c.run_untimed-ran.ensures c.in-Next.k c.in-Next.is (omega (arith, c.if-budget-steps.false)) (omega (arith, c.if-code-place.false))).1 (omega (arith, c.if-budget-steps.false)) _ c.run.result (c.run.ensures c.in-Next.k.held c.in-Next.k.picked a.low.now a.high.now _ g.stack.few (sym g.named.previous)) _ c.in-Some.is c.run.auto.cur
 
 returns-5 : tie.Need-returns invariant_loop decreases_loop
 returns-5 c = (λ ns q t. spent c.loop-done.invariant c.loop-done-test.false ns (record { ranged = q; timed = t }), c.loop-done.invariant.within)

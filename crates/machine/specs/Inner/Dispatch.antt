@@ -1,5 +1,5 @@
 -- Instructions that a run does at once, and what it is then left with: auxiliary definitions for proofs. Assumes nothing.
-use Rattle.std.specs.Prelude.{◌≡◌, Bool, false, List, ℕ, ◌+◌, ◌-◌, ◌≤◌, ◌<◌, ℤ, length, get_or}
+use Rattle.std.specs.Prelude.{◌≡◌, Bool, false, List, ℕ, ◌+◌, ◌-◌, ◌≤◌, ◌<◌, ℤ, length, get_or, Option, Some, None}
 use Rattle.limits.specs.Limits.{stack_limit, broken_image}
 use Rattle.arith.specs.Values.{refusal, Comparison, compares}
 use Rattle.semantics.specs.Shape.{Setting}
@@ -11,10 +11,6 @@ use Rattle.machine.specs.declared.Stepped.TheVariants as S
 use Rattle.machine.specs.declared.dispatch.Dispatched.{Dispatched}
 use Rattle.machine.specs.declared.dispatch.Dispatched.TheVariants as D
 use Rattle.machine.specs.declared.Executed.{Executed}
-use Rattle.machine.specs.declared.timer.Worked.{Worked}
-use Rattle.machine.specs.declared.timer.Worked.TheVariants as W
-use Rattle.machine.specs.declared.dispatch.Lookahead.{Lookahead}
-use Rattle.machine.specs.declared.dispatch.Lookahead.TheVariants as C
 use Rattle.machine.specs.Step.{push, perform}
 use Rattle.machine.specs.Runs.{ran, run, resume}
 use Rattle.machine.specs.Inner.Memory.{machine_of, step_outcome, Few}
@@ -56,10 +52,10 @@ DispatchedBy code settings prev at m vals cur vals₁ cur₁ most (D.On h c p ne
 DispatchedBy code settings prev at m vals cur vals₁ cur₁ most (D.Refused number) = Stops code settings prev at m vals cur number
 DispatchedBy code settings prev at m vals cur vals₁ cur₁ most D.Timed = AtTimer code at m vals cur vals₁ cur₁
 
--- a timer at work: only current values move
-abbrev pub WorkedBy : List ℕ → (Setting → Type 0) → List ℤ → ℕ → Registers → List ℤ → List ℤ → List ℤ → Worked → Type 0
-WorkedBy code settings prev at m vals cur cur₁ (W.Behind next) = Continues code settings prev at m vals cur vals cur₁ 1 m next 1
-WorkedBy code settings prev at m vals cur cur₁ W.Broken = Stops code settings prev at m vals cur broken_image
+-- a timer at work, and the place behind it: only current values move
+abbrev pub WorkedBy : List ℕ → (Setting → Type 0) → List ℤ → ℕ → Registers → List ℤ → List ℤ → List ℤ → Option ℕ → Type 0
+WorkedBy code settings prev at m vals cur cur₁ (Some next) = Continues code settings prev at m vals cur vals cur₁ 1 m next 1
+WorkedBy code settings prev at m vals cur cur₁ None = Stops code settings prev at m vals cur broken_image
 
 -- ---- a run up to a timer
 
@@ -101,6 +97,6 @@ pub record Comparing (code : List ℕ) (prev cur : List ℤ) (at held left : ℕ
   pub loaded : (ns : Setting) (c : Bool) (vs : List ℤ) → length ns.ranges ≡ length prev → perform ns prev loading c vs cur ≡ push x c vs cur
   pub finds : found ≡ compares relation x (unzigzag operand)
 
-abbrev pub LookaheadBy : List ℕ → List ℤ → List ℤ → ℕ → ℕ → ℕ → Lookahead → Type 0
-LookaheadBy code prev cur at held left (C.Truth found) = Comparing code prev cur at held left found
-LookaheadBy code prev cur at held left C.Other = Unit {0}
+abbrev pub LookaheadBy : List ℕ → List ℤ → List ℤ → ℕ → ℕ → ℕ → Option Bool → Type 0
+LookaheadBy code prev cur at held left (Some found) = Comparing code prev cur at held left found
+LookaheadBy code prev cur at held left None = Unit {0}

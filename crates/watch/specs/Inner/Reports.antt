@@ -1,16 +1,16 @@
 -- What the contracts of the functions inside say. Assumes nothing.
+use Rattle.std.specs.Prelude as O
+use Rattle.std.specs.Prelude.{Some, None}
 use Rattle.std.specs.Prelude.{ℕ, ◌-◌, ◌^◌, ◌≤◌, ◌<◌, ◌≡◌, List, length, take, drop}
 use Rattle.std.proofs.Math.Option.{Option, none, some}
 use Rattle.semantics.specs.Program.{Condition, Watch}
 use Rattle.translate.specs.Inner.Descent.{WatchesStand}
-use Rattle.evaluation.specs.declared.Failed.{Failed}
-use Rattle.evaluation.specs.declared.Failed.TheVariants.{At, Never}
 use Rattle.evaluation.specs.Conditions.{ConditionCode}
 
 -- a place that a report has room for
-abbrev pub FailedWithin : Failed → Type 0
-FailedWithin (At n) = n < 2 ^ 63
-FailedWithin Never = Unit {0}
+abbrev pub FailedWithin : O.Option ℕ → Type 0
+FailedWithin (Some n) = n < 2 ^ 63
+FailedWithin None = Unit {0}
 
 -- the code of a second condition; where there is none, no code
 abbrev pub LaterCode : Option Condition → ℕ → List ℕ → Type 0

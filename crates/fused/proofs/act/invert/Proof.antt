@@ -28,7 +28,7 @@ returns-3 c code low high prev cur h =
     let x : v ≡ bit (not (yes (get_or l (n - 1) (pos 0)))) = c.bit_of-v.ensures ∙ ap (λ y. bit (not y)) (rw (to_z-of_z fa) at c.is_yes.ensures) in
     let fv : SFits w32 v = search rules in
     rw (to_z-of_z fv)
-    (done_acts h c.in-Kept.k (set l (n - 1) v) c.invert.result c.in-Kept.is (c.invert.ensures.0 ∙ sym (negated_is (known_of b.walk))) c.invert.ensures.1 n
+    (done_acts h c.in-Some.k (set l (n - 1) v) c.invert.result c.in-Some.is (c.invert.ensures.0 ∙ sym (negated_is (known_of b.walk))) c.invert.ensures.1 n
     (λ ns q. one_put (λ y. ok (bit (not (yes y)))) l n b.picked cur c.if-h-eq0.false v (omega (arith, c.requires.0.few_held, c.requires.1)) (ap ok (sym x))) c.done.result c.done.ensures)
 
 pub invert_spec : {M : Type 1} → statement M

@@ -19,10 +19,10 @@ returns-3 c =
     let b = c.args.b in
     let v = c.args.v in (
       (λ code low high prev cur h. rw (to_z-of_z c.ranges.v)
-          (done_acts h.at_hand c.in-Kept.k (set l b.walk.held v) c.push.result c.in-Kept.is (c.push.ensures.0 ∙ sym h.admitted) c.push.ensures.1 (b.walk.held + 1)
+          (done_acts h.at_hand c.in-Some.k (set l b.walk.held v) c.push.result c.in-Some.is (c.push.ensures.0 ∙ sym h.admitted) c.push.ensures.1 (b.walk.held + 1)
           (λ ns q. push_put l b.walk.held v b.picked cur c.if-h-ge-STACK_LIMIT.false c.requires.1 ∙ sym (h.puts ns b.picked (held_of l b.walk.held) (names_length ns.ranges low high q ∙ sym h.at_hand.ready.sized)))
           c.done.result c.done.ensures)),
-      subst SmallOn (sym c.done.ensures) (subst SmallAfter c.in-Kept.is c.push.ensures.1),
+      subst SmallOn (sym c.done.ensures) (subst SmallAfter c.in-Some.is c.push.ensures.1),
     )
 
 pub put_spec : {M : Type 1} → statement M

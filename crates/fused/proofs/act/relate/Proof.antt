@@ -28,7 +28,7 @@ returns-3 c i e does code low high prev cur h =
     let x : v ≡ bit (truth_of c.args.byte (get_or l (n - 2) (pos 0)) (get_or l (n - 1) (pos 0))) = c.bit_of-v.ensures ∙ ap bit (rw (to_z-of_z fa, to_z-of_z fb) at c.truth.ensures) in
     let fv : SFits w32 v = search rules in
     rw (to_z-of_z fv)
-    (done_acts h c.in-Kept.k (set l (n - 2) v) c.test.result c.in-Kept.is (c.test.ensures.0 ∙ sym e) c.test.ensures.1 (n - 1)
+    (done_acts h c.in-Some.k (set l (n - 2) v) c.test.result c.in-Some.is (c.test.ensures.0 ∙ sym e) c.test.ensures.1 (n - 1)
     (λ ns q. two_put (λ y z. ok (bit (truth_of c.args.byte y z))) l n b.picked cur v c.if-h-lt2.false (omega (arith, c.requires.0.few_held, c.requires.2)) (ap ok (sym x)) ∙ sym (does ns prev cur b.picked (held_of l n)))
     c.done.result c.done.ensures)
 

@@ -15,14 +15,14 @@ use Rattle.fused.proofs.ahead.found.Statement.{statement}
 use Rattle.fused.proofs.ahead.found.Tie as tie
 
 -- codes 4 to 8
-returns-3 : tie.Need-returns-in-Is
+returns-3 : tie.Need-returns-in-Some
 returns-3 c =
     let a = c.args in
     let fa : SFits w32 a.a = c.ranges.a in
     let fc : SFits w32 a.c = c.ranges.c in
-    let e : arithmetic (operation_of a.op) a.a a.c ≡ ok c.in-Is.v = rw (to_z-of_z fa, to_z-of_z fc) at (sym c.calculated.ensures ∙ ap outcome_of c.in-Is.is) in
-    let fv : SFits w32 c.in-Is.v = search rules in
-    rw (to_z-of_z fv) (operation_made a.w a.op a.a a.c c.in-Is.v (omega (arith, c.in-4-to-8.if-op-lt4-own.false)) (omega (arith, c.in-4-to-8.if-op-lt9-own.true)) e)
+    let e : arithmetic (operation_of a.op) a.a a.c ≡ ok c.in-Some.v = rw (to_z-of_z fa, to_z-of_z fc) at (sym c.calculated.ensures ∙ ap outcome_of c.in-Some.is) in
+    let fv : SFits w32 c.in-Some.v = search rules in
+    rw (to_z-of_z fv) (operation_made a.w a.op a.a a.c c.in-Some.v (omega (arith, c.in-4-to-8.if-op-lt4-own.false)) (omega (arith, c.in-4-to-8.if-op-lt9-own.true)) e)
 
 -- codes 10 to 15
 returns-4 : tie.Need-returns-else-w-ne0

@@ -37,8 +37,8 @@ add-t21 c = omega (arith, skips_far c.args.code.now c.args.b.walk c.args.b.at _ 
 returns-3 : tie.Need-returns-then-s-eq0
 returns-3 c = breaks_here c.args.code.now c.args.b _ _ _ c.skip-s.ensures c.if-s-eq0.true (passed_as _ _ c.pass.result _ c.pass.ensures c.in-Broken.is)
 
-returns-4 : tie.Need-returns-in-On-settle_ahead
-returns-4 c = λ low high vals r. over_settle c.args.code.now r c.requires.0.3 _ _ _ c.skip-s.ensures _ (passed_as _ _ c.pass.result _ c.pass.ensures c.in-On.is) _ _ (settled_as _ _ _ _ _ c.settle_ahead.result _ c.settle_ahead.ensures c.in-On-settle_ahead.is)
+returns-4 : tie.Need-returns-in-Some
+returns-4 c = λ low high vals r. over_settle c.args.code.now r c.requires.0.3 _ _ _ c.skip-s.ensures _ (passed_as _ _ c.pass.result _ c.pass.ensures c.in-On.is) _ _ (settled_as _ _ _ _ _ c.settle_ahead.result _ c.settle_ahead.ensures c.in-Some.is)
 
 returns-5 : tie.Need-returns-in-Refused
 returns-5 c = passed_as _ _ c.pass.result _ c.pass.ensures c.in-Refused.is

@@ -24,13 +24,13 @@ returns c =
 slice-set-from-vals : tie.Need-bounds-vals-held
 slice-set-from-vals c =
     let a = c.args in
-    let s = subst (λ x. LookaheadBy a.code.now a.prev.now a.cur.now a.at a.held a.left x) c.in-Truth.is c.comparison_at.ensures in
+    let s = subst (λ x. LookaheadBy a.code.now a.prev.now a.cur.now a.at a.held a.left x) c.in-Some.is c.comparison_at.ensures in
     omega (arith, s.room, c.requires.0.2)
 
 returns-2 : tie.Need-returns
 returns-2 c =
     let a = c.args in
-    let s = subst (λ x. LookaheadBy a.code.now a.prev.now a.cur.now a.at a.held a.left x) c.in-Truth.is c.comparison_at.ensures in
+    let s = subst (λ x. LookaheadBy a.code.now a.prev.now a.cur.now a.at a.held a.left x) c.in-Some.is c.comparison_at.ensures in
     let fv : SFits w32 c.bit_of.result = search rules in
     rw (to_z-of_z fv) (comparison_done a.code.now (RangedIn a.low.now a.high.now) a.prev.now a.at a.held a.picked a.vals.now a.cur.now a.left _ s (λ ns q. names_length ns.ranges a.low.now a.high.now q ∙ sym c.requires.1.previous) c.requires.0.2 c.bit_of.result c.bit_of.ensures)
 

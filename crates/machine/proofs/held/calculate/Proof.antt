@@ -38,8 +38,8 @@ returns-3 c =
     let n = a.m.held in
     let fa : SFits w32 (get_or l (n - 2) (pos 0)) = record { sfits = c.calculated-arg-1.given } in
     let fb : SFits w32 (get_or l (n - 1) (pos 0)) = record { sfits = c.calculated-arg-2-1.given } in
-    let v = c.in-Is.v in
-    let e : f (get_or l (n - 2) (pos 0)) (get_or l (n - 1) (pos 0)) ≡ ok v = rw (to_z-of_z fa, to_z-of_z fb) at (sym c.calculated-x.ensures ∙ ap outcome_of c.in-Is.is) in
+    let v = c.in-Some.v in
+    let e : f (get_or l (n - 2) (pos 0)) (get_or l (n - 1) (pos 0)) ≡ ok v = rw (to_z-of_z fa, to_z-of_z fb) at (sym c.calculated-x.ensures ∙ ap outcome_of c.in-Some.is) in
     let fv : SFits w32 v = search rules in
     let two = c.if-n-lt2.false in
     (λ ns s t. rw (to_z-of_z fv) (two_put f l n a.m.picked t v two (omega (arith, p.few, p.room)) e), omega (arith, p.few))

@@ -33,8 +33,8 @@ returns-3 c =
     let l = a.vals.now in
     let n = a.m.held in
     let fa : SFits w32 (get_or l (n - 1) (pos 0)) = record { sfits = c.negated-arg-1.given } in
-    let v = c.in-Is.v in
-    let e : negation (get_or l (n - 1) (pos 0)) ≡ ok v = rw (to_z-of_z fa) at (sym c.negated-x.ensures ∙ ap outcome_of c.in-Is.is) in
+    let v = c.in-Some.v in
+    let e : negation (get_or l (n - 1) (pos 0)) ≡ ok v = rw (to_z-of_z fa) at (sym c.negated-x.ensures ∙ ap outcome_of c.in-Some.is) in
     let fv : SFits w32 v = search rules in
     let some = c.if-n-eq0.false in
     (λ ns s t. rw (to_z-of_z fv) (one_put negation l n a.m.picked t some v (omega (arith, p.few, p.room)) e), omega (arith, p.few))

@@ -27,7 +27,7 @@ loop-less c = omega (arith, c.loop-steps-test.true)
 loop-again : tie.Need-loop-steps-preserved invariant_loop decreases_loop
 loop-again c =
     let a = c.args in
-    let s = subst (λ x. BeyondBy a.code.now c.loop-steps.at x) c.in-Place.is c.past.ensures in
+    let s = subst (λ x. BeyondBy a.code.now c.loop-steps.at x) c.in-Some.is c.past.ensures in
     (further_over a.code.now a.from _ _ true 1 _ c.loop-steps.invariant.0 s, omega (arith, c.loop-steps-test.true), λ e. absurd (omega (arith, e)))
 
 returns : tie.Need-returns-after-loop-steps invariant_loop decreases_loop
