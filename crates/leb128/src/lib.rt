@@ -7,12 +7,6 @@ ghost use Rattle.leb128.specs.Numbers.{number, found, below32, number_at, signed
 ghost use Rattle.leb128.specs.Results.{number_read};
 ghost use Rattle.leb128.specs.Inner.Groups.{joined_groups};
 
-fn wide(x: u8) -> u64
-    ensures { result ≡ x }
-{
-    x as u64
-}
-
 // What a 1 of the fifth group counts: 128 ^ 4.
 const FIFTH: u64 = 268435456;
 
@@ -40,18 +34,16 @@ fn long_at(s: &[u8], at: usize) -> Option<(u64, usize)>
 {
     let mut low: u64 = 0;
     let mut scale: u64 = 1;
-    let mut i = at;
-    while i < s.len() {
-        let byte = wide(s[i]);
+    for i in at..s.len() {
+        let byte = u64::from(s[i]);
         if byte < 128 {
             return last(low, scale, byte, i);
         }
         if FIFTH <= scale {
             return None;
         }
-        low = low + (byte - 128) * scale;
-        scale = scale * 128;
-        i += 1;
+        low += (byte - 128) * scale;
+        scale *= 128;
     }
     None
 }
@@ -61,7 +53,7 @@ pub fn unsigned_at(s: &[u8], at: usize) -> Option<(u64, usize)>
     ensures { number_read result ≡ number_at s.now at }
 {
     if at < s.len() {
-        let b = wide(s[at]);
+        let b = u64::from(s[at]);
         if b < 128 {
             return Some((b, at + 1));
         }

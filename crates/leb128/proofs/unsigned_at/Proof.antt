@@ -8,7 +8,7 @@ use Rattle.leb128.proofs.unsigned_at.Tie as tie
 
 returns : tie.Need-returns-then-b-lt128
 returns c =
-    let e = c.wide-b.ensures in
+    let e = c.from-b.ensures in
     rw e (sym (one_group _ _ c.if-at-s.true (omega (arith, e, c.if-b-lt128.true))))
 
 pub unsigned_at_spec : {M : Type 1} → statement M
