@@ -15,8 +15,8 @@ use Rattle.translate.specs.Services.{AfterTranslation, translation_of}
 use Rattle.scan.specs.Services.{AfterStart, start_of, scans_of}
 use Rattle.correctness.specs.TraceCorrect.{TraceCorrect}
 use Rattle.correctness.proofs.Correct.{trace_correct}
-use Rattle.replay.specs.declared.Replayed.{Replayed}
-use Rattle.replay.specs.declared.Replayed.TheVariants as R
+use Rattle.std.specs.Prelude.{Result, Ok, Err}
+use Rattle.limits.specs.declared.Refusal.{Refusal}
 use Rattle.replay.specs.Replay.{rows_of, Lent, AfterReplay, recorded, replay_rows, with_image, replay_image, replay_of, StandIn, Shown}
 use Rattle.replay.specs.Results.{after_replay, ShownBy}
 use Rattle.replay.proofs.Starts.{start_sized}
@@ -35,13 +35,13 @@ module _ (text : List ℕ) (cells : List ℤ) (lengths : List ℕ) (m : Lent) wh
     begins : (start_of (take n buffer) m.state).answer ≡ accepted tt
     left_is : left ≡ recorded (with_image m buffer) (start_of (take n buffer) m.state).state (scans_of (take n buffer) (start_of (take n buffer) m.state).state (rows_of cells lengths))
 
-  ran : (left : Lent) (n : ℕ) → after_replay (R.Done n) left ≡ replay_of text cells lengths m → Ran left n
+  ran : (left : Lent) (n : ℕ) → after_replay (Ok n) left ≡ replay_of text cells lengths m → Ran left n
   unfolding replay_of
   ran left n e = go (translation_of text m.image).answer (translation_of text m.image).buffer refl e
     where
       by : (buffer : List ℕ) (k : ℕ) (b : Answer (Unit {0})) (s : State) → translation_of text m.image ≡ record { answer = accepted k; buffer = buffer }
           → start_of (take k buffer) m.state ≡ record { answer = b; state = s }
-          → after_replay (R.Done n) left ≡ replay_rows (record { answer = b; state = s }) k (take k buffer) (rows_of cells lengths) (with_image m buffer) → Ran left n
+          → after_replay (Ok n) left ≡ replay_rows (record { answer = b; state = s }) k (take k buffer) (rows_of cells lengths) (with_image m buffer) → Ran left n
       by buffer k (refused j at) s h g q =
           let w : accepted n ≡ refused j at = ap {A = AfterReplay} (λ r. r.answer) q in
           let z : ◌≡◌ {A = ℕ} 0 1 = cc in
@@ -60,7 +60,7 @@ module _ (text : List ℕ) (cells : List ℤ) (lengths : List ℕ) (m : Lent) wh
           }
 
       go : (a : Answer ℕ) (buffer : List ℕ) → translation_of text m.image ≡ record { answer = a; buffer = buffer }
-          → after_replay (R.Done n) left ≡ replay_image a buffer (rows_of cells lengths) m → Ran left n
+          → after_replay (Ok n) left ≡ replay_image a buffer (rows_of cells lengths) m → Ran left n
       go (refused j at) buffer h q =
           let w : accepted n ≡ refused j at = ap {A = AfterReplay} (λ r. r.answer) q in
           let z : ◌≡◌ {A = ℕ} 0 1 = cc in
@@ -96,6 +96,6 @@ module _ (text : List ℕ) (cells : List ℤ) (lengths : List ℕ) (m : Lent) wh
             record { last = refl; trace = stand m.trace _ _ refl; numbers = stand m.numbers _ _ refl; steps = stand m.steps _ _ refl };
       })
 
-  pub replay_shown : (r : Replayed) (left : Lent) → after_replay r left ≡ replay_of text cells lengths m → ShownBy r text cells lengths m left
-  replay_shown (R.Done n) left e = shown left n (ran left n e)
-  replay_shown (R.Refused number place) left e = tt
+  pub replay_shown : (r : Result ℕ Refusal) (left : Lent) → after_replay r left ≡ replay_of text cells lengths m → ShownBy r text cells lengths m left
+  replay_shown (Ok n) left e = shown left n (ran left n e)
+  replay_shown (Err x) left e = tt

@@ -9,16 +9,10 @@ ghost use Rattle.replay.specs.Replay.{rows_of, replay_rows, replay_of};
 ghost use Rattle.replay.specs.Results.{lent, after_replay, ShownBy, ReplayedWithin};
 ghost use Rattle.replay.specs.Inner.Records.{records, record_scan, scan_rows, KnownBy};
 
+use limits::Refusal;
 use machine::lists;
 use scan::Scanned;
 use shapes::Measured;
-
-// The image's length; or the number and place of the refusal of translation or start.
-#[derive(Clone, Copy)]
-pub enum Replayed {
-    Done(usize),
-    Refused(u8, usize),
-}
 
 // One element, where there is room for it.
 fn store<T: Copy>(records: &mut [T], i: usize, x: T)
@@ -114,7 +108,7 @@ fn replay_in(
     high: &mut [i32],
     work: &mut [i32],
     vals: &mut [i32],
-) -> Replayed
+) -> Result<usize, Refusal>
     requires scratch { Scratch state_limit state.old low.old high.old work.old }
     requires stack_limit_in_bounds { stack_limit ≤ length vals.old }
     ensures by_index { (buffer : List ℕ) → after_replay result (lent buffer state.new numbers.new steps.new trace.new)
@@ -122,29 +116,25 @@ fn replay_in(
         (lent buffer state.old numbers.old steps.old trace.old) }
     ensures replayed_within { ReplayedWithin result }
 {
-    match scan::start_shape(image, state, low, high) {
-        Err(e) => Replayed::Refused(e.number(), e.place()),
-        Ok(m) => {
-            let size = m.size;
-            let at = lists::store(trace, 0, state);
-            scan_rows(
-                image,
-                m,
-                &low[..size],
-                &high[..size],
-                &mut work[..size],
-                vals,
-                state,
-                cells,
-                lengths,
-                at,
-                numbers,
-                steps,
-                trace,
-            );
-            Replayed::Done(image.len())
-        }
-    }
+    let m = scan::start_shape(image, state, low, high)?;
+    let size = m.size;
+    let at = lists::store(trace, 0, state);
+    scan_rows(
+        image,
+        m,
+        &low[..size],
+        &high[..size],
+        &mut work[..size],
+        vals,
+        state,
+        cells,
+        lengths,
+        at,
+        numbers,
+        steps,
+        trace,
+    );
+    Ok(image.len())
 }
 
 // The same, with memory of its own for the ranges and the current values.
@@ -156,7 +146,7 @@ fn replay_image(
     numbers: &mut [u8],
     steps: &mut [usize],
     trace: &mut [i32],
-) -> Replayed
+) -> Result<usize, Refusal>
     ensures by_index { (buffer : List ℕ) → after_replay result (lent buffer state.new numbers.new steps.new trace.new)
         ≡ replay_rows (start_of image.now state.old) (length image.now) image.now (rows_of cells.now lengths.now)
         (lent buffer state.old numbers.old steps.old trace.old) }
@@ -172,6 +162,7 @@ fn replay_image(
     )
 }
 
+// The image's length, or the refusal of translation or start.
 pub fn replay(
     text: &[u8],
     image: &mut [u8],
@@ -181,7 +172,7 @@ pub fn replay(
     numbers: &mut [u8],
     steps: &mut [usize],
     trace: &mut [i32],
-) -> Replayed
+) -> Result<usize, Refusal>
     ensures trace_after { after_replay result (lent image.new state.new numbers.new steps.new trace.new)
         ≡ replay_of text.now cells.now lengths.now
         (lent image.old state.old numbers.old steps.old trace.old) }
@@ -190,8 +181,6 @@ pub fn replay(
         (lent image.new state.new numbers.new steps.new trace.new) }
     ensures replayed_within { ReplayedWithin result }
 {
-    match translate::translate(text, image) {
-        Err(refusal) => Replayed::Refused(refusal.number(), refusal.place()),
-        Ok(n) => replay_image(&image[..n], state, cells, lengths, numbers, steps, trace),
-    }
+    let n = translate::translate(text, image)?;
+    replay_image(&image[..n], state, cells, lengths, numbers, steps, trace)
 }

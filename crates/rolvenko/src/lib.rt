@@ -115,10 +115,7 @@ pub extern "C" fn rolvenko_replay(
         (lent image.old state.old numbers.old steps.old trace.old)
         (lent image.new state.new numbers.new steps.new trace.new) }
 {
-    match replay::replay(text, image, state, cells, lengths, numbers, steps, trace) {
-        replay::Replayed::Done(length) => paused::pack(0, 0, length as u64),
-        replay::Replayed::Refused(number, place) => paused::pack(number, place, 0),
-    }
+    pack_count(replay::replay(text, image, state, cells, lengths, numbers, steps, trace))
 }
 
 #[unsafe(no_mangle)]
