@@ -2,7 +2,7 @@
 use Prim.Native.Nat.{ℕ, suc}
 use native.Mathlib.Omega.{arith}
 use mathlib.Core.Path.{◌≡◌, refl, ap}
-use mathlib.Core.Bool.{true}
+use mathlib.Core.Bool.{true, false, and-false}
 use mathlib.Core.List.{List, [], ◌∷◌}
 use lib.IntN.{ℤ}
 use lib.ListN.{length}
@@ -12,6 +12,12 @@ use Rattle.std.proofs.lemmas.Bool.Decides.{same_from_decides, Decides-int_eq}
 use Rattle.arith.specs.Values.{eq_z}
 use Rattle.arith.proofs.Basics.{and_both, eq_z_true, eq_z_self}
 use Rattle.lifecycle.specs.Calls.{same_values}
+
+pub differ_long : (a b : List ℤ) → (length a ≡ length b → ⊥) → same_values a b ≡ false
+differ_long [] [] h = absurd (h refl)
+differ_long [] (y ∷ b) h = refl
+differ_long (x ∷ a) [] h = refl
+differ_long (x ∷ a) (y ∷ b) h = rw (differ_long a b (λ e. h (omega arith))) (and-false (eq_z x y))
 
 pub same_long : (a b : List ℤ) → same_values a b ≡ true → length a ≡ length b
 same_long [] [] e = refl
