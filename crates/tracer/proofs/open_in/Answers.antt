@@ -22,8 +22,8 @@ begin_trace-put-requires c =
 
 pub returns-in-Err : goal.returns-in-Err
 returns-in-Err c =
-    let p = rw (c.number.ensures, c.place.ensures) at c.put_refused-put.ensures.put in
-    let l = rw (c.number.ensures, c.place.ensures) at c.put_refused-put.ensures.place_len_bound in
+    let p = rw (c.from.ensures, c.number.ensures, c.place.ensures) at c.put_refused-put.ensures.put in
+    let l = rw (c.from.ensures, c.number.ensures, c.place.ensures) at c.put_refused-put.ensures.place_len_bound in
     opens_refused _ _ _ (text_refused _ (analysed_refused c.analyse.ensures c.in-Err.is)) c.requires.in_bounds.2 p l
 
 pub returns-in-Ok : goal.returns-in-Ok
