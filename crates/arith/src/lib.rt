@@ -80,6 +80,7 @@ pub fn negated(a: i32) -> Option<i32>
     narrow(0 - x)
 }
 
+// The six comparisons of the document: one expression each, with the definition that their callers cite.
 pub fn is_equal(a: i32, b: i32) -> bool
     ensures { result ≡ compares equal a b }
 {

@@ -1,4 +1,4 @@
-// The opcodes (document 01: code bytes) by name.
+// The opcodes (document 01: code bytes) by name. They are bytes of an image that a caller lends, any byte among them, so they stay bytes and no enum.
 pub const CONSTANT: u8 = 1;
 
 pub const CURRENT: u8 = 2;

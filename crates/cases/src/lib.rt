@@ -79,6 +79,7 @@ pub fn cases(
     let mut a = at;
     let mut t = to;
     let mut count = 0;
+    // a `loop`: the token behind a case says whether another follows
     loop {
         let token = lexer::token_at(text, a)?;
         if token.kind != lexer::OPEN_SQUARE {
@@ -109,6 +110,7 @@ fn plain_list(text: &[u8], starts: &[usize], ends: &[usize], names: Names, at: u
     let mut nothing = [0u8; 0];
     let mut a = at;
     let mut left = limits::CASE_LIMIT;
+    // a `loop`: the token behind a case says whether another follows
     loop {
         let bracket = lexer::token_at(text, a)?;
         if bracket.kind != lexer::OPEN_SQUARE {

@@ -9,12 +9,6 @@ ghost use Rattle.checker.specs.Inner.Stretches.{with_sort, LeadsTo, TakenBy};
 use crate::advance;
 use crate::advance::Walk;
 
-fn wide(x: u8) -> u64
-    ensures { result ≡ x }
-{
-    x as u64
-}
-
 // A current or previous value, a constant and a comparison, with operands of one byte: a yes-no more is held.
 fn comparison_ahead(code: &[u8], at: usize, w: Walk) -> bool
     requires { (Small w) × (at < length code.now) }
@@ -49,7 +43,7 @@ fn comparison_ahead(code: &[u8], at: usize, w: Walk) -> bool
     if (limits::STACK_LIMIT as u64) <= w.held + 1 {
         return false;
     }
-    let id = wide(code[at + 1]);
+    let id = u64::from(code[at + 1]);
     if byte == 3 {
         return id < w.names;
     }
@@ -97,9 +91,7 @@ fn read(code: &[u8], at: usize) -> Option<(u8, u64, usize)>
     let byte = code[at];
     let behind = at + 1;
     if bytecode::has_operand(byte) {
-        let Some((n, next)) = leb128::unsigned_at(code, behind) else {
-            return None;
-        };
+        let (n, next) = leb128::unsigned_at(code, behind)?;
         return Some((byte, n, next));
     }
     Some((byte, 0, behind))
@@ -110,12 +102,8 @@ fn single(code: &[u8], at: usize, w: Walk) -> Option<(Walk, usize)>
     requires { (Small w) × (at < length code.now) }
     ensures { TakenBy code.now at w result }
 {
-    let Some((byte, n, next)) = read(code, at) else {
-        return None;
-    };
-    let Some(k) = advance::advance(byte, n, w) else {
-        return None;
-    };
+    let (byte, n, next) = read(code, at)?;
+    let k = advance::advance(byte, n, w)?;
     Some((k, next))
 }
 

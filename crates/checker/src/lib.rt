@@ -65,6 +65,7 @@ pub fn walk_from(code: &[u8], from: usize, first: Walk) -> Verdict
 {
     let mut at = from;
     let mut w = first;
+    // a `while`: the place moves on by an instruction's length, which is known when it is read
     while at < code.len() {
         let Some((k, next)) = ahead::ahead(code, at, w) else {
             if code[at] == bytecode::opcode::TIMER {

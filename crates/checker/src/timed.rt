@@ -48,7 +48,7 @@ fn advanced(code: u8, n: u64, w: Walk) -> Option<Walk>
     }
 }
 
-// A let and a settle end the rule of their variable.
+// A let and a settle end the rule of their variable, known by their code bytes.
 fn after(code: u8, n: u64) -> Last
     requires { n < 2 ^ 32 }
     ensures { LastBy (instruction_of code n) result }
@@ -180,6 +180,7 @@ pub fn walk(
     let mut at = 0;
     let mut w = crate::initial(inputs, low.len());
     let mut last = Last { of: 0, least: 0 };
+    // a `while`: the place moves on by an instruction's length, which is known when it is read
     while at < code.len() {
         let Some((k, l, next)) = turn(code, at, w, last, low, high, start) else {
             return Err(Refusal::BrokenImage(base + at));

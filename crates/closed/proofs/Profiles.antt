@@ -2,6 +2,7 @@
 use mathlib.Core.Path.{◌≡◌, refl, sym, ap, ap₂, ◌∙◌}
 use mathlib.Core.Bool.{Bool, true, false, cond}
 use mathlib.Core.List.{List, [], ◌∷◌, map}
+use Rattle.std.specs.Prelude.{Option, Some, None}
 use Prim.Native.Nat.{ℕ, zero, suc, ◌+◌, ◌-◌, ◌*◌, ◌≤◌, ◌<◌, min}
 use native.Mathlib.Nat.{mul-le-mul}
 use native.Mathlib.Omega.{arith}
@@ -21,8 +22,6 @@ use Rattle.bytecode.proofs.CheckNumbers.{CheckRefusal, too_long_lem, broken, che
 use Rattle.machine.specs.Inner.Memory.{RangesIn}
 use Rattle.closed.specs.Closed.{product_of_sizes, input_ranges, is_small, combinations, Combination, paired, combinations_of, every_accepted, refused_at, walked, AfterClosed, leaves, if_small, combined_in, combination_of}
 use Rattle.closed.specs.Inner.Parts.{working, visited_as, part_working, combined_ranges}
-use Rattle.closed.specs.declared.Visited.{Visited}
-use Rattle.closed.specs.declared.Visited.TheVariants as W
 use Rattle.closed.proofs.Combining.{combinations_count, paired_count}
 use Rattle.closed.proofs.Walks.{ahead}
 
@@ -138,12 +137,12 @@ module _ (ns : List Range) (inputs : ℕ) (code : List ℕ) (first most : ℕ) (
     part_is : ahead (working ns code) ns (take inputs ns) end first ≡ walked (working ns code) (take most (drop first combos)) first
     part_is = ap (λ (l : List Combination). walked (working ns code) l first) (taken_before combos first most end _ combos_count h m)
 
-    pub closed_through : (r : Visited) (s t : List ℤ) → visited_as r s t ≡ ahead (working ns code) ns (take inputs ns) end first → r ≡ W.Every
+    pub closed_through : (r : Option ℕ) (s t : List ℤ) → visited_as r s t ≡ ahead (working ns code) ns (take inputs ns) end first → r ≡ None
         → leaves (accepted tt) state row ≡ part_working ns inputs code first most state row
-    closed_through r s t e q = let k : walked (working ns code) (take most (drop first combos)) first ≡ every_accepted = sym part_is ∙ sym e ∙ ap (λ (x : Visited). visited_as x s t) q in rw (small, k)
+    closed_through r s t e q = let k : walked (working ns code) (take most (drop first combos)) first ≡ every_accepted = sym part_is ∙ sym e ∙ ap (λ (x : Option ℕ). visited_as x s t) q in rw (small, k)
 
-    pub closed_stopped : (r : Visited) (s t left right : List ℤ) (n : ℕ) → visited_as r s t ≡ ahead (working ns code) ns (take inputs ns) end first → r ≡ W.Until n
+    pub closed_stopped : (r : Option ℕ) (s t left right : List ℤ) (n : ℕ) → visited_as r s t ≡ ahead (working ns code) ns (take inputs ns) end first → r ≡ Some n
         → left ≡ with_inputs state s → right ≡ with_inputs row t → leaves (refused 27 n) left right ≡ part_working ns inputs code first most state row
     closed_stopped r s t left right n e q a b =
-        let k : walked (working ns code) (take most (drop first combos)) first ≡ refused_at n (record { state = s; row = t }) = sym part_is ∙ sym e ∙ ap (λ (x : Visited). visited_as x s t) q in
+        let k : walked (working ns code) (take most (drop first combos)) first ≡ refused_at n (record { state = s; row = t }) = sym part_is ∙ sym e ∙ ap (λ (x : Option ℕ). visited_as x s t) q in
         rw (small, k, a, b)

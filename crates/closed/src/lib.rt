@@ -95,14 +95,8 @@ fn nth(low: &[i32], high: &[i32], times: usize, values: &mut [i32])
     }
 }
 
-// No scan was refused; or the scans done before the refused one.
-#[derive(Clone, Copy)]
-pub enum Visited {
-    Every,
-    Until(usize),
-}
-
-// The combinations from `first` on and before `end`, rows inside states. It ends at the first scan that is refused, and leaves its state and row.
+// The combinations from `first` on and before `end`, rows inside states. It ends at the first scan that is refused, leaves its state and row, and answers how
+// many scans were done before it; none where no scan is refused.
 fn walk(
     code: &[u8],
     low: &[i32],
@@ -116,7 +110,7 @@ fn walk(
     row: &mut [i32],
     work: &mut [i32],
     vals: &mut [i32],
-) -> Visited
+) -> Option<usize>
     requires walking { Walking low.now high.now row_low.now row_high.now state.old row.old work.old vals.old }
     requires le_rows { (1 ≤ rows) × (first ≤ end) × (end ≤ combination_limit) }
     ensures row_after { (ns is : List Range) → RangesIn ns low.now high.now → RangesIn is row_low.now row_high.now
@@ -142,9 +136,9 @@ fn walk(
         i += 1;
     }
     if done < end {
-        return Visited::Until(done);
+        return Some(done);
     }
-    Visited::Every
+    None
 }
 
 // The product, then the walk. `state` and `row` are written only where a scan is refused.
@@ -193,7 +187,7 @@ fn closed_ranges(
         work,
         vals,
     );
-    let Visited::Until(done) = ended else {
+    let Some(done) = ended else {
         return Ok(());
     };
     lists::fill(state, at_state);

@@ -110,6 +110,7 @@ fn condition(
     let mut a = at;
     let mut t = to;
     let mut code: u8 = 0;
+    // a `loop`: the token behind an operand says whether another follows
     loop {
         let mut behind = conjunction(text, starts, ends, names, a, left, out, t)?;
         behind.to = expressions::put_operator(out, behind.to, code);
@@ -142,6 +143,7 @@ fn conjunction(
     let mut a = at;
     let mut t = to;
     let mut code: u8 = 0;
+    // a `loop`: the token behind an operand says whether another follows
     loop {
         let mut behind = atom(text, starts, ends, names, a, left, out, t)?;
         behind.to = expressions::put_operator(out, behind.to, code);

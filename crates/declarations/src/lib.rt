@@ -215,6 +215,7 @@ pub fn declarations(
     let mut a = at;
     let mut known = count;
     let mut t = to;
+    // a `loop`: the token behind a declaration says whether another follows
     loop {
         let token = lexer::token_at(text, a)?;
         if token.kind != word {

@@ -201,6 +201,7 @@ pub fn timers(
     let mut a = at;
     let mut known = count;
     let mut t = to;
+    // a `loop`: the token behind a timer says whether another follows
     loop {
         let token = lexer::token_at(text, a)?;
         if token.kind != lexer::TIMER {

@@ -32,15 +32,13 @@ fn read(code: &[u8], at: usize) -> Option<(u8, u64, usize)>
     let byte = code[at];
     let behind = at + 1;
     if bytecode::has_operand(byte) {
-        let Some((n, next)) = leb128::unsigned_at(code, behind) else {
-            return None;
-        };
+        let (n, next) = leb128::unsigned_at(code, behind)?;
         return Some((byte, n, next));
     }
     Some((byte, 0, behind))
 }
 
-// One instruction of a condition; any other is refused.
+// One instruction of a condition; any other is refused. A match on the code byte: the image's bytes are what is run, and no table of functions.
 fn work(prev: &[i32], cur: &[i32], vals: &mut [i32], m: Registers, code: u8, n: u64) -> Stepped
     requires stack { Stack m vals.old }
     requires n_bound { n < 2 ^ 32 }
@@ -87,10 +85,9 @@ pub fn evaluate(code: &[u8], prev: &[i32], cur: &[i32], vals: &mut [i32]) -> Opt
         passing: false,
     };
     let mut at: usize = 0;
+    // a `while`: the place moves on by an instruction's length, which is known when it is read
     while at < code.len() {
-        let Some((op, n, next)) = read(code, at) else {
-            return None;
-        };
+        let (op, n, next) = read(code, at)?;
         let Stepped::Next(t) = work(prev, cur, vals, k, op, n) else {
             return None;
         };

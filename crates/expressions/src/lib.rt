@@ -216,6 +216,7 @@ pub fn expression(
     let mut a = at;
     let mut t = to;
     let mut code: u8 = 0;
+    // a `loop`: the token behind an operand says whether another follows
     loop {
         let mut behind = term(text, starts, ends, names, a, left, out, t)?;
         behind.to = put_operator(out, behind.to, code);
@@ -248,6 +249,7 @@ fn term(
     let mut a = at;
     let mut t = to;
     let mut code: u8 = 0;
+    // a `loop`: the token behind an operand says whether another follows
     loop {
         let mut behind = factor(text, starts, ends, names, a, left, out, t)?;
         behind.to = put_operator(out, behind.to, code);

@@ -40,9 +40,7 @@ fn put(vals: &mut [i32], b: Progress, next: usize, v: i32) -> Option<(Progress, 
     ensures small_on { SmallOn result }
 {
     let w = b.walk;
-    let Some(k) = advance::push(w) else {
-        return None;
-    };
+    let k = advance::push(w)?;
     let h = w.held as usize;
     if limits::STACK_LIMIT <= h {
         return None;
@@ -57,18 +55,14 @@ fn calculate(vals: &mut [i32], b: Progress, next: usize, byte: u8) -> Option<(Pr
     ensures { DoneBy (operation (operation_of byte)) next b vals.old vals.new result }
 {
     let w = b.walk;
-    let Some(k) = advance::join(w, advance::NUMBER, advance::NUMBER) else {
-        return None;
-    };
+    let k = advance::join(w, advance::NUMBER, advance::NUMBER)?;
     let h = w.held as usize;
     if h < 2 {
         return None;
     }
     let left = h - 2;
     let right = h - 1;
-    let Some(v) = values::calculated(byte, vals[left], vals[right]) else {
-        return None;
-    };
+    let v = values::calculated(byte, vals[left], vals[right])?;
     vals[left] = v;
     done(b, k, next)
 }
@@ -85,9 +79,7 @@ fn relate(
     ensures { RelatedBy byte sort next b vals.old vals.new result }
 {
     let w = b.walk;
-    let Some(k) = advance::test(w, sort) else {
-        return None;
-    };
+    let k = advance::test(w, sort)?;
     let h = w.held as usize;
     if h < 2 {
         return None;
@@ -105,9 +97,7 @@ fn invert(vals: &mut [i32], b: Progress, next: usize) -> Option<(Progress, usize
     ensures { DoneBy negated next b vals.old vals.new result }
 {
     let w = b.walk;
-    let Some(k) = advance::invert(w) else {
-        return None;
-    };
+    let k = advance::invert(w)?;
     let h = w.held as usize;
     if h == 0 {
         return None;
@@ -118,7 +108,7 @@ fn invert(vals: &mut [i32], b: Progress, next: usize) -> Option<(Progress, usize
     done(b, k, next)
 }
 
-// The operation or comparison that stands here, on the two numbers on top.
+// The operation or comparison that stands here, on the two numbers on top: a match on the code byte, as in `advance_one`.
 fn work(code: &[u8], vals: &mut [i32], b: Progress) -> Option<(Progress, usize)>
     requires { Small b.walk × (b.at < length code.now) × (stack_limit ≤ length vals.old) }
     ensures { ActedHere code.now b vals.old vals.new result }
@@ -143,9 +133,7 @@ fn put_constant(
     requires { Small b.walk × (stack_limit ≤ length vals.old) }
     ensures { PutOnBy code.now next v b vals.old vals.new result }
 {
-    let Some((p, _)) = put(vals, b, next, v) else {
-        return None;
-    };
+    let (p, _) = put(vals, b, next, v)?;
     if code.len() <= p.at {
         return Some((p, 1));
     }
@@ -155,7 +143,7 @@ fn put_constant(
     Some((q, 2))
 }
 
-// One instruction, or a constant and what works on it.
+// One instruction, or a constant and what works on it: a match on the code byte, as in `advance_one`.
 fn act_one(
     code: &[u8],
     low: &[i32],
@@ -175,15 +163,11 @@ fn act_one(
     let byte = code[at];
     match byte {
         1 => {
-            let Some((n, next)) = leb128::unsigned_at(code, behind) else {
-                return None;
-            };
+            let (n, next) = leb128::unsigned_at(code, behind)?;
             put_constant(code, vals, b, next, leb128::unzigzag(n))
         }
         2 => {
-            let Some((n, next)) = leb128::unsigned_at(code, behind) else {
-                return None;
-            };
+            let (n, next) = leb128::unsigned_at(code, behind)?;
             if w.names <= n {
                 return None;
             }
@@ -194,9 +178,7 @@ fn act_one(
             put(vals, b, next, cur[i])
         }
         3 => {
-            let Some((n, next)) = leb128::unsigned_at(code, behind) else {
-                return None;
-            };
+            let (n, next) = leb128::unsigned_at(code, behind)?;
             if w.names <= n {
                 return None;
             }
@@ -261,6 +243,7 @@ pub fn act(
 {
     let mut b = first;
     let mut steps = 0;
+    // a `while`: the place moves on by an instruction's length, which is known when it is read
     while b.at < code.len() {
         let Some((k, n)) = act_ahead(code, low, high, prev, cur, vals, b) else {
             break;

@@ -18,21 +18,13 @@ pub enum Leap {
     Broken,
 }
 
-fn wide(x: u8) -> u64
-    ensures { result ≡ x }
-{
-    x as u64
-}
-
 // What an operation or comparison makes of two numbers, and its sort, where the walk lets it pass.
 fn found(w: Walk, op: u8, a: i32, c: i32) -> Option<(i32, u64)>
     ensures { FoundBy w op a c result }
 {
     match op {
         4..=8 => {
-            let Some(v) = values::calculated(op, a, c) else {
-                return None;
-            };
+            let v = values::calculated(op, a, c)?;
             Some((v, advance::NUMBER))
         }
         10..=15 => {
@@ -70,11 +62,11 @@ pub fn pair_ahead(code: &[u8], prev: &[i32], cur: &[i32], at: usize, w: Walk) ->
     if 15 < op {
         return None;
     }
-    let id = wide(code[at + 1]);
+    let id = u64::from(code[at + 1]);
     if w.names <= id {
         return None;
     }
-    let n = wide(code[at + 3]);
+    let n = u64::from(code[at + 3]);
     if 127 < n {
         return None;
     }
@@ -118,9 +110,7 @@ fn skip_one(code: &[u8], at: usize, held: u64, w: Walk) -> Option<(u64, usize)>
     if (limits::STACK_LIMIT as u64) <= held {
         return None;
     }
-    let Some((n, next)) = leb128::unsigned_at(code, at + 1) else {
-        return None;
-    };
+    let (n, next) = leb128::unsigned_at(code, at + 1)?;
     if byte == 1 {
         return Some((held + 1, next));
     }
@@ -148,6 +138,7 @@ fn skip(code: &[u8], from: usize, w: Walk) -> Passage
     let mut at = from;
     let mut steps = 0;
     if w.sorts == 0 {
+        // a `while`: the place moves on by an instruction's length, which is known when it is read
         while at < code.len() {
             let Some((more, next)) = skip_one(code, at, held, w) else {
                 break;
@@ -173,12 +164,8 @@ fn settle_ahead(code: &[u8], prev: &[i32], cur: &mut [i32], b: Progress) -> Opti
     if code[at] != 22 {
         return None;
     }
-    let Some((n, next)) = leb128::unsigned_at(code, at + 1) else {
-        return None;
-    };
-    let Some(k) = advance::settle(w, n) else {
-        return None;
-    };
+    let (n, next) = leb128::unsigned_at(code, at + 1)?;
+    let k = advance::settle(w, n)?;
     if w.names <= n {
         return None;
     }

@@ -56,7 +56,7 @@ fn operand(code: &[u8], at: usize) -> Option<(u64, usize)>
     leb128::unsigned_at(code, at + 1)
 }
 
-// Between a gate and its pick only codes 1 to 9 stand.
+// Between a gate and its pick only codes 1 to 9 stand: a match of its own on the code byte, shorter than that of `advance_one`.
 fn pass(code: &[u8], b: Progress) -> Moved
     requires { Small b.walk × (b.at < length code.now) × (open_of b.walk.gate ≡ true) }
     ensures { PassesBy code.now b result }
@@ -316,6 +316,7 @@ fn run_in(
         passing: false,
     };
     let mut steps = 0;
+    // two `while`s: the place moves on by the length of what is read, and the inner one ends where instructions are passed over
     'code: while b.at < code.len() {
         match ahead::pass_first(code, prev, cur, b) {
             Leap::On(k, n) => {

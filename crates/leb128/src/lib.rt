@@ -87,6 +87,7 @@ pub fn put_unsigned(out: &mut [u8], at: usize, n: u64) -> usize
 {
     let mut rest = n;
     let mut i = at;
+    // a `while`: what is left of the number says whether another group follows
     while 128 <= rest {
         i = put_byte(out, i, (128 + rest % 128) as u8);
         rest = rest / 128;

@@ -24,7 +24,7 @@ fn put(memory: &mut [i32], i: usize, n: usize)
     memory[i] = n as i32;
 }
 
-// The same values, as many of them.
+// The same values, as many of them: `==`, with the document's definition beside it.
 fn same(a: &[i32], b: &[i32]) -> bool
     ensures { result ≡ same_values a.now b.now }
 {

@@ -18,12 +18,6 @@ pub enum Dispatched {
     Timed,
 }
 
-fn wide(x: u8) -> u64
-    ensures { result ≡ x }
-{
-    x as u64
-}
-
 // The operand of the instruction at a place, and the place behind it.
 fn operand(code: &[u8], at: usize) -> Option<(u64, usize)>
     requires { at < length code.now }
@@ -163,7 +157,7 @@ fn comparison_at(
     if left < 3 {
         return None;
     }
-    let id = wide(code[at + 1]);
+    let id = u64::from(code[at + 1]);
     if 127 < id {
         return None;
     }
@@ -171,7 +165,7 @@ fn comparison_at(
     if prev.len() <= i {
         return None;
     }
-    let n = wide(code[at + 3]);
+    let n = u64::from(code[at + 3]);
     if 127 < n {
         return None;
     }

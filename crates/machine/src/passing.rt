@@ -18,9 +18,7 @@ fn over(code: &[u8], at: usize, passing: bool) -> Option<(bool, usize, usize)>
     requires { at < length code.now }
     ensures { result ≡ over_of passing (number_at code.now (at + 1)) }
 {
-    let Some((_, next)) = leb128::unsigned_at(code, at + 1) else {
-        return None;
-    };
+    let (_, next) = leb128::unsigned_at(code, at + 1)?;
     Some((passing, next, 1))
 }
 
@@ -56,9 +54,7 @@ fn past(code: &[u8], at: usize) -> Option<usize>
     if byte == 0 {
         return None;
     }
-    let Some((_, next)) = leb128::unsigned_at(code, at + 1) else {
-        return None;
-    };
+    let (_, next) = leb128::unsigned_at(code, at + 1)?;
     Some(next)
 }
 
@@ -68,18 +64,16 @@ fn pass_along(code: &[u8], from: usize, left: usize) -> Along
     ensures steps_le_left { (result.steps ≤ left) × (result.steps ≡ 0 → result.at ≡ from) }
 {
     let mut at = from;
-    let mut steps = 0;
-    while steps < left {
+    for steps in 0..left {
         if code.len() <= at {
-            break;
+            return Along { at, steps };
         }
         let Some(next) = past(code, at) else {
-            break;
+            return Along { at, steps };
         };
         at = next;
-        steps += 1;
     }
-    Along { at, steps }
+    Along { at, steps: left }
 }
 
 // At most `left` instructions: those up to the pick, and the pick. Where one behind the first is broken, those before it.

@@ -38,7 +38,7 @@ fn either_yes(a: i32, b: i32) -> bool
     is_yes(b)
 }
 
-// Codes 4 to 8, before the range test.
+// Codes 4 to 8, before the range test: a match on the code byte, each arm the operation of its code.
 fn exact(code: u8, a: i32, b: i32) -> i64
     ensures { int32 result ≡ arithmetic (operation_of code) a b }
 {
@@ -58,7 +58,7 @@ pub fn calculated(code: u8, a: i32, b: i32) -> Option<i32>
     arith::narrow(exact(code, a, b))
 }
 
-// Codes 10 to 15, 17 and 18.
+// Codes 10 to 15, 17 and 18: a match on the code byte, each arm the comparison of its code.
 pub fn truth(code: u8, a: i32, b: i32) -> bool
     ensures { result ≡ truth_of code a b }
 {

@@ -104,7 +104,8 @@ pub struct Layout {
     pub timers: u64,
 }
 
-// The answer of a call: steps; a refusal's number, place and steps; a scan that is not finished; neither scan nor row.
+// The answer of a call: steps; a refusal's number, place and steps; a scan that is not finished; neither scan nor row. The refusal's number is
+// a u8 and no `Refusal`: it was kept in the caller's memory, which may hold any.
 #[derive(Clone, Copy)]
 pub enum Response {
     Done(usize),
@@ -205,7 +206,7 @@ pub fn waiting(memory: &[i32]) -> usize
     cell(memory, WAITING, limits::NAME_LIMIT + 1)
 }
 
-// A count as a number.
+// A count as a number; no `try_from`, since what it is given is below 2 ^ 31.
 fn number(x: usize) -> i32
     requires { x < 2 ^ 31 }
     ensures { result ≡ pos x }

@@ -109,6 +109,7 @@ fn rules_in(
     let mut known = names.known;
     let mut a = at;
     let mut t = to;
+    // a `loop`: the token behind a rule says whether another follows
     loop {
         let token = lexer::token_at(text, a)?;
         if token.kind != lexer::NAME {

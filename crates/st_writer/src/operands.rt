@@ -109,6 +109,7 @@ pub fn operand(
     let mut a = at;
     let mut place = to;
     let mut pending: usize = 0;
+    // a `loop`: the code byte that is read says whether the operand ends there
     loop {
         if code.len() <= a {
             return Stretch { next: a, to: place };

@@ -67,6 +67,7 @@ pub fn reserved_place(text: &[u8]) -> usize
 {
     let mut at = 0;
     let mut named = false;
+    // a `loop`: the place moves on by a token's length, which is known when it is read
     loop {
         let read = lexer::token_at(text, at);
         let Ok(token) = read else {

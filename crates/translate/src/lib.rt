@@ -143,7 +143,7 @@ pub fn descend(text: &[u8], starts: &mut [usize], ends: &mut [usize], out: &mut 
     descend_in(text, starts, ends, &mut watched, &mut bounds, out)
 }
 
-// A count of the header.
+// A count of the header; no `usize::from`, since the contract of this one bounds it.
 fn count_of(byte: u8) -> usize
     ensures { (result ≡ byte) × (result < 256) }
 {

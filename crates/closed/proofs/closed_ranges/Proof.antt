@@ -81,9 +81,9 @@ returns-4 c =
       λ ns r.
           let z = sized_by c.before.before.before.before.before.before.before.before.before.before.before.before.before.before.before.before.before.before ns r in
           let n = ends_at c.before.before.before.before.before.before.before.before.before.before.before.before.before.before.before.before ns r in
-          closed_stopped ns c.args.inputs c.args.code.now c.args.first c.args.most c.args.state.now c.args.row.now z.small c.behind-end.result (begins_among c.before.before.before.before.before.before.before.before.before.before.before.before.before.before.before.before.before ns r) n c.walk-ended.result c.walk-ended.new.state c.walk-ended.new.row c.fill.new.to c.fill-2.new.to c.in-Until.done
-          (c.walk-ended.ensures.0 ns (take c.args.inputs ns) r (ranges_taken c.args.inputs ns _ _ r) z.second (omega (arith, n))) c.in-Until.is c.fill.ensures c.fill-2.ensures,
-      let w = subst VisitedWithin c.in-Until.is c.walk-ended.ensures.1 in omega arith,
+          closed_stopped ns c.args.inputs c.args.code.now c.args.first c.args.most c.args.state.now c.args.row.now z.small c.behind-end.result (begins_among c.before.before.before.before.before.before.before.before.before.before.before.before.before.before.before.before.before ns r) n c.walk-ended.result c.walk-ended.new.state c.walk-ended.new.row c.fill.new.to c.fill-2.new.to c.in-Some.done
+          (c.walk-ended.ensures.0 ns (take c.args.inputs ns) r (ranges_taken c.args.inputs ns _ _ r) z.second (omega (arith, n))) c.in-Some.is c.fill.ensures c.fill-2.ensures,
+      let w = subst VisitedWithin c.in-Some.is c.walk-ended.ensures.1 in omega arith,
     )
 
 pub closed_ranges_spec : {M : Type 1} → statement M

@@ -1,5 +1,5 @@
 -- The parts of the closed profile as the running code works them: auxiliary definitions for proofs. Assumes nothing.
-use Rattle.std.specs.Prelude.{ℕ, suc, ◌*◌, ◌≤◌, ◌<◌, ◌≡◌, Bool, true, false, ◌&&◌, cond, List, [], ◌∷◌, ℤ, pos, ◌+ℤ◌, eqb, leb, length, take, drop}
+use Rattle.std.specs.Prelude.{ℕ, suc, Option, Some, None, ◌*◌, ◌≤◌, ◌<◌, ◌≡◌, Bool, true, false, ◌&&◌, cond, List, [], ◌∷◌, ℤ, pos, ◌+ℤ◌, eqb, leb, length, take, drop}
 use Rattle.std.proofs.Math.ListN.{get_elem?}
 use Rattle.std.specs.Int.Signed.{lt_z}
 use Rattle.limits.specs.Limits.{name_limit, stack_limit, combination_limit, wrong_length, not_small}
@@ -7,8 +7,6 @@ use Rattle.limits.specs.Answer.{Answer, accepted, refused}
 use Rattle.semantics.specs.Program.{Range}
 use Rattle.scan.specs.Inner.Parts.{scanned_code}
 use Rattle.closed.specs.Closed.{product_of_sizes, combinations, Combination, paired, Walked, every_accepted, refused_at, walked, AfterClosed, leaves, closed_by, combined}
-use Rattle.closed.specs.declared.Visited.{Visited}
-use Rattle.closed.specs.declared.Visited.TheVariants as W
 
 -- ---- the combination after one: the last value moves, a value at its high goes back to its low and the one before moves
 
@@ -53,14 +51,14 @@ pub record Walking (low high row_low row_high state row work vals : List ℤ) : 
   pub rows : length row ≡ length row_low
   pub among : length row_low ≤ length low
 
--- `Until` holds the scans done before; the refused combination is what the walk leaves
-abbrev pub visited_as : Visited → List ℤ → List ℤ → Walked
-visited_as W.Every state row = every_accepted
-visited_as (W.Until n) state row = refused_at n (record { state = state; row = row })
+-- the scans done before, if one was refused; the refused combination is what the walk leaves
+abbrev pub visited_as : Option ℕ → List ℤ → List ℤ → Walked
+visited_as None state row = every_accepted
+visited_as (Some n) state row = refused_at n (record { state = state; row = row })
 
-abbrev pub VisitedWithin : Visited → Type 0
-VisitedWithin W.Every = Unit {0}
-VisitedWithin (W.Until n) = n < combination_limit
+abbrev pub VisitedWithin : Option ℕ → Type 0
+VisitedWithin None = Unit {0}
+VisitedWithin (Some n) = n < combination_limit
 
 -- ---- the parts of the services
 

@@ -8,17 +8,17 @@ use Rattle.evaluation.proofs.evaluate.Goals as goal
 pub loop-at-init : goal.loop-at-init
 loop-at-init c = begins c.args.code.now c.args.prev.now c.args.cur.now c.args.vals.now _ refl refl refl c.requires
 
-pub returns-in_default : goal.returns-in_default
-returns-in_default c = λ x d l. absurd (broken (c.loop-at.invariant.goes x d l) c.loop-at-test.true c.in_default.ensures.result_value)
+pub returns-in_err-op : goal.returns-in_err-op
+returns-in_err-op c = λ x d l. absurd (broken (c.loop-at.invariant.goes x d l) c.loop-at-test.true c.in_err-op.ensures.result_value)
 
-pub returns-in_default-work : goal.returns-in_default-work
-returns-in_default-work c =
-    let i = c.in-Some in
-    λ x d l. (_, refused (taken (c.loop-at.invariant.goes x d l) c.loop-at-test.true (instruction_of i.op i.n) i.next i.ensures.result_value) l c.work.result c.work.new.vals c.work.ensures.cur_after _ c.in_default-work.is)
+pub returns-in_default : goal.returns-in_default
+returns-in_default c =
+    let i = c.in_ok-op in
+    λ x d l. (_, refused (taken (c.loop-at.invariant.goes x d l) c.loop-at-test.true (instruction_of i.op i.n) i.next i.ensures.result_value) l c.work.result c.work.new.vals c.work.ensures.cur_after _ c.in_default.is)
 
 pub loop-at-preserved : goal.loop-at-preserved
 loop-at-preserved c =
-    let i = c.in-Some in
+    let i = c.in_ok-op in
     let v = c.loop-at.invariant in
     let deep = c.work.auto.vals in
     record {

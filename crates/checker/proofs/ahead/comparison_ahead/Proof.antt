@@ -14,12 +14,12 @@ use Rattle.checker.proofs.ahead.comparison_ahead.Tie as tie
 returns-10 : tie.Need-returns-then-byte-eq3
 returns-10 c =
     λ e. previous_leads c.args.code.now c.args.at c.args.w c.requires.0 c.if-code-at.false c.if-code-at-ne1.false c.if-op-lt10.false (omega (arith, c.if-op-gt15.false)) (omega (arith, c.if-code-at-gt127.false)) c.if-w-ne0.false (omega (arith, c.if-w.false))
-    c.if-byte-eq3.true (omega (arith, ltb-true c.wide-id.result c.args.w.names e, c.wide-id.ensures))
+    c.if-byte-eq3.true (omega (arith, ltb-true c.from-id.result c.args.w.names e, c.from-id.ensures))
 
 returns-11 : tie.Need-returns
 returns-11 c =
     let is : get_or c.args.code.now c.args.at 0 ≡ 2 = omega (arith, c.if-byte-lt2.false, c.if-byte-gt3.false, c.if-byte-eq3.false) in
-    λ e. let known : get_or (flags_of c.args.w.names c.args.w.known) (get_or c.args.code.now (c.args.at + 1) 0) false ≡ true = rw c.wide-id.ensures at (sym c.is_known.ensures ∙ e) in
+    λ e. let known : get_or (flags_of c.args.w.names c.args.w.known) (get_or c.args.code.now (c.args.at + 1) 0) false ≡ true = rw c.from-id.ensures at (sym c.is_known.ensures ∙ e) in
     current_leads c.args.code.now c.args.at c.args.w c.requires.0 c.if-code-at.false c.if-code-at-ne1.false c.if-op-lt10.false (omega (arith, c.if-op-gt15.false)) (omega (arith, c.if-code-at-gt127.false)) c.if-w-ne0.false (omega (arith, c.if-w.false)) is known
 
 pub comparison_ahead_spec : {M : Type 1} → statement M

@@ -6,14 +6,14 @@ use Rattle.checker.proofs.ahead.read.Goals as goal
 pub returns-then-code-at : goal.returns-then-code-at
 returns-then-code-at c = let r = single_end _ _ c.if-code-at.true in record { result_value = r.0; single_within = r.1 }
 
-pub returns-in_default : goal.returns-in_default
-returns-in_default c =
-    let r = single_malformed _ _ c.if-code-at.false (sym c.has_operand.ensures ∙ c.if-has_operand.true) (sym c.in_default.ensures) in
-    record { result_value = r.0; single_within = r.1 }
+pub returns-in_err-n : goal.returns-in_err-n
+returns-in_err-n c =
+    let r = single_malformed _ _ c.if-code-at.false (sym c.has_operand.ensures ∙ c.if-has_operand.true) (sym c.in_err-n.ensures) in
+    rw c.from_residual.ensures (record { result_value = r.0; single_within = r.1 })
 
 pub returns-then-has_operand : goal.returns-then-has_operand
 returns-then-has_operand c =
-    let r = single_number _ _ c.if-code-at.false _ _ (sym c.has_operand.ensures ∙ c.if-has_operand.true) (sym c.in-Some.ensures) in
+    let r = single_number _ _ c.if-code-at.false _ _ (sym c.has_operand.ensures ∙ c.if-has_operand.true) (sym c.in_ok-n.ensures) in
     record { result_value = r.0; single_within = r.1 }
 
 pub returns : goal.returns

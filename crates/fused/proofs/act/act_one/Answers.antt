@@ -23,20 +23,20 @@ use Rattle.fused.proofs.act.act_one.Goals as goal
 
 -- codes 1 to 3
 pub unzigzag-requires : goal.unzigzag-requires
-unzigzag-requires c = (number_within _ _ _ _ (sym c.in-Some.ensures)).operand
+unzigzag-requires c = (number_within _ _ _ _ (sym c.in_ok-n-in-1.ensures)).operand
 
-pub returns-in-Some : goal.returns-in-Some
+pub returns-in_ok-n-in-1 : goal.returns-in_ok-n-in-1
 unfolding instruction_of has_operand
-returns-in-Some c =
+returns-in_ok-n-in-1 c =
     let a = c.args in
-    let num = sym c.in-Some.ensures in
-    let n = c.in-Some.n in
+    let num = sym c.in_ok-n-in-1.ensures in
+    let n = c.in_ok-n-in-1.n in
     let within = number_within _ _ _ _ num in
     let fv : SFits w32 c.unzigzag.result = search rules in
     let p = rw (to_z-of_z fv, c.unzigzag.ensures) at c.put_constant.ensures in
     p a.low.now a.high.now a.prev.now a.cur.now (record {
       putting = constant (unzigzag n);
-      at_hand = record { ready = c.requires.ready; acting = c.requires.at_in_bounds.1; inside = within.inside; fetched = with_operand a.code.now a.b c.requires.at_in_bounds.0 1 c.in-1.is refl n c.in-Some.next num };
+      at_hand = record { ready = c.requires.ready; acting = c.requires.at_in_bounds.1; inside = within.inside; fetched = with_operand a.code.now a.b c.requires.at_in_bounds.0 1 c.in-1.is refl n c.in_ok-n-in-1.next num };
       admitted = constant_is n (known_of a.b.walk) within.operand;
       puts = λ ns k vs e. refl;
     })
@@ -45,14 +45,14 @@ pub returns-else-not-is_known : goal.returns-else-not-is_known
 unfolding instruction_of has_operand
 returns-else-not-is_known c =
     let a = c.args in
-    let num = sym c.in-Some-unsigned_at.ensures in
-    let n = c.in-Some-unsigned_at.n in
+    let num = sym c.in_ok-n-in-2.ensures in
+    let n = c.in_ok-n-in-2.n in
     let w = a.b.walk in
     let fv : SFits w32 (get_or a.cur.now n (pos 0)) = search rules in
     let p = rw (to_z-of_z fv) at c.put.ensures.put_by in
     once_acts a.code.now a.low.now a.high.now a.prev.now a.b a.vals.now a.cur.now _ c.put.result (p a.code.now a.low.now a.high.now a.prev.now a.cur.now (record {
       putting = current n;
-      at_hand = record { ready = c.requires.ready; acting = c.requires.at_in_bounds.1; inside = (number_within _ _ _ _ num).inside; fetched = with_operand a.code.now a.b c.requires.at_in_bounds.0 2 c.in-2.is refl n c.in-Some-unsigned_at.next num };
+      at_hand = record { ready = c.requires.ready; acting = c.requires.at_in_bounds.1; inside = (number_within _ _ _ _ num).inside; fetched = with_operand a.code.now a.b c.requires.at_in_bounds.0 2 c.in-2.is refl n c.in_ok-n-in-2.next num };
       admitted = current_pushed w n (sym c.is_known.ensures ∙ c.if-not-is_known.false);
       puts = λ ns k vs e. current_loaded w n c.if-w-n.false ns a.prev.now a.cur.now k vs e;
     }))
@@ -61,14 +61,14 @@ pub returns-else-w-n-2 : goal.returns-else-w-n-2
 unfolding instruction_of has_operand
 returns-else-w-n-2 c =
     let a = c.args in
-    let num = sym c.in-Some-unsigned_at-2.ensures in
-    let n = c.in-Some-unsigned_at-2.n in
+    let num = sym c.in_ok-n-in-3.ensures in
+    let n = c.in_ok-n-in-3.n in
     let w = a.b.walk in
     let fv : SFits w32 (get_or a.prev.now n (pos 0)) = search rules in
     let p = rw (to_z-of_z fv) at c.put-in-3.ensures.put_by in
     once_acts a.code.now a.low.now a.high.now a.prev.now a.b a.vals.now a.cur.now _ c.put-in-3.result (p a.code.now a.low.now a.high.now a.prev.now a.cur.now (record {
       putting = previous n;
-      at_hand = record { ready = c.requires.ready; acting = c.requires.at_in_bounds.1; inside = (number_within _ _ _ _ num).inside; fetched = with_operand a.code.now a.b c.requires.at_in_bounds.0 3 c.in-3.is refl n c.in-Some-unsigned_at-2.next num };
+      at_hand = record { ready = c.requires.ready; acting = c.requires.at_in_bounds.1; inside = (number_within _ _ _ _ num).inside; fetched = with_operand a.code.now a.b c.requires.at_in_bounds.0 3 c.in-3.is refl n c.in_ok-n-in-3.next num };
       admitted = previous_pushed w n c.if-w-n-2.false;
       puts = λ ns k vs e. previous_loaded w n c.if-w-n-2.false ns a.prev.now a.cur.now k vs e;
     }))

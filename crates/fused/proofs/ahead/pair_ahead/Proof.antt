@@ -26,9 +26,9 @@ returns-10 : tie.Need-returns-then-byte-eq3
 returns-10 c =
     let a = c.args in
     let code = a.code.now in
-    let i = c.wide-id.ensures in
-    let n = c.wide-n.ensures in
-    let fx : SFits w32 (get_or a.prev.now c.wide-id.result (pos 0)) = search rules in
+    let i = c.from-id.ensures in
+    let n = c.from-n.ensures in
+    let fx : SFits w32 (get_or a.prev.now c.from-id.result (pos 0)) = search rules in
     let fy : SFits w32 c.unzigzag.result = search rules in
     let f : FoundBy a.w (get_or code (a.at + 4) 0) (value_at a.prev.now (get_or code (a.at + 1) 0)) (unzigzag (get_or code (a.at + 3) 0)) c.found.result =
     rw (to_z-of_z fx, to_z-of_z fy, c.unzigzag.ensures, i, n) at c.found.ensures in
@@ -45,9 +45,9 @@ returns-12 : tie.Need-returns
 returns-12 c =
     let a = c.args in
     let code = a.code.now in
-    let i = c.wide-id.ensures in
-    let n = c.wide-n.ensures in
-    let fx : SFits w32 (get_or a.cur.now c.wide-id.result (pos 0)) = search rules in
+    let i = c.from-id.ensures in
+    let n = c.from-n.ensures in
+    let fx : SFits w32 (get_or a.cur.now c.from-id.result (pos 0)) = search rules in
     let fy : SFits w32 c.unzigzag-2.result = search rules in
     let f : FoundBy a.w (get_or code (a.at + 4) 0) (value_at a.cur.now (get_or code (a.at + 1) 0)) (unzigzag (get_or code (a.at + 3) 0)) c.found-2.result =
     rw (to_z-of_z fx, to_z-of_z fy, c.unzigzag-2.ensures, i, n) at c.found-2.ensures in

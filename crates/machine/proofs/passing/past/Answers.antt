@@ -23,4 +23,4 @@ returns c =
     let byte = get_or a.code.now a.at 0 in
     number_over a.code.now a.at c.requires byte refl (low_operand byte (omega (arith, c.if-byte-eq0.false)) (omega (arith, c.if-byte-gt3.false))) true
     (λ n ns prev k vs t. pass_other ns prev byte n k vs t (omega (arith, c.if-byte-eq0.false)) (omega (arith, c.if-byte-gt3.false)) (λ e. omega (arith, c.if-byte-gt3.false, e)))
-    _ _ (sym c.in-Some.ensures)
+    _ _ (sym c.in_ok-next.ensures)

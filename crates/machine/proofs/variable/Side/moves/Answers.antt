@@ -1,9 +1,7 @@
 -- Of numbers of 32 bits the tests of the code are those of the definition.
-use Rattle.std.proofs.Common.{rules, arith, to_z, of_z}
+use Rattle.std.proofs.Common.{arith}
 use Rattle.std.proofs.lemmas.Int.{ints, to_z-of_z}
 use Rattle.semantics.specs.ReferenceScan.{moves}
-use Rattle.arith.specs.Values.{eq_z}
-use Rattle.machine.specs.Inner.Sides.{side_of}
 use Rattle.machine.proofs.variable.Side.moves.Goals as goal
 
 pub returns-in-Changing : goal.returns-in-Changing

@@ -14,11 +14,10 @@ use Rattle.machine.specs.Inner.Groups.{truth_of}
 use Rattle.machine.proofs.Stack.{two_put}
 use Rattle.fused.proofs.Acting.{done_acts}
 use borrow.Author.Rules.{rules}
-use Rattle.fused.proofs.act.relate.Statement.{statement}
-use Rattle.fused.proofs.act.relate.Tie as tie
+use Rattle.fused.proofs.act.relate.Goals as goal
 
-returns-3 : tie.Need-returns
-returns-3 c i e does code low high prev cur h =
+pub returns : goal.returns
+returns c i e does code low high prev cur h =
     let l = c.args.vals.now in
     let b = c.args.b in
     let n = b.walk.held in
@@ -28,11 +27,6 @@ returns-3 c i e does code low high prev cur h =
     let x : v ≡ bit (truth_of c.args.byte (get_or l (n - 2) (pos 0)) (get_or l (n - 1) (pos 0))) = c.bit_of-v.ensures ∙ ap bit (rw (to_z-of_z fa, to_z-of_z fb) at c.truth.ensures) in
     let fv : SFits w32 v = search rules in
     rw (to_z-of_z fv)
-    (done_acts h c.in-Some.k (set l (n - 2) v) c.test.result c.in-Some.is (c.test.ensures.0 ∙ sym e) c.test.ensures.1 (n - 1)
+    (done_acts h c.in_ok-k.k (set l (n - 2) v) c.test.result c.in_ok-k.was (c.test.ensures.result_value ∙ sym e) c.test.ensures.small_after (n - 1)
     (λ ns q. two_put (λ y z. ok (bit (truth_of c.args.byte y z))) l n b.picked cur v c.if-h-lt2.false (omega (arith, c.requires.0.few_held, c.requires.2)) (ap ok (sym x)) ∙ sym (does ns prev cur b.picked (held_of l n)))
     c.done.result c.done.ensures)
-
-pub relate_spec : {M : Type 1} → statement M
-relate_spec =
-    tie.close
-    (tie.spec (λ c κs. search rules) (λ c. search rules) (λ c. search rules) (λ c. search rules) (λ c. search rules) (λ c. search rules) (λ c. search rules) (λ c. search rules) (λ c. search rules) (λ c. search rules) (λ c κs. search rules) (λ c κs. search rules) (λ c. search rules) (λ c. search rules) (λ c κs. search rules) (λ c. search rules) returns-3)

@@ -15,11 +15,10 @@ use Rattle.machine.specs.Step.{bit, yes}
 use Rattle.machine.proofs.Stack.{one_put}
 use Rattle.fused.proofs.Acting.{done_acts}
 use borrow.Author.Rules.{rules}
-use Rattle.fused.proofs.act.invert.Statement.{statement}
-use Rattle.fused.proofs.act.invert.Tie as tie
+use Rattle.fused.proofs.act.invert.Goals as goal
 
-returns-3 : tie.Need-returns
-returns-3 c code low high prev cur h =
+pub returns : goal.returns
+returns c code low high prev cur h =
     let l = c.args.vals.now in
     let b = c.args.b in
     let n = b.walk.held in
@@ -28,10 +27,5 @@ returns-3 c code low high prev cur h =
     let x : v ≡ bit (not (yes (get_or l (n - 1) (pos 0)))) = c.bit_of-v.ensures ∙ ap (λ y. bit (not y)) (rw (to_z-of_z fa) at c.is_yes.ensures) in
     let fv : SFits w32 v = search rules in
     rw (to_z-of_z fv)
-    (done_acts h c.in-Some.k (set l (n - 1) v) c.invert.result c.in-Some.is (c.invert.ensures.0 ∙ sym (negated_is (known_of b.walk))) c.invert.ensures.1 n
+    (done_acts h c.in_ok-k.k (set l (n - 1) v) c.invert.result c.in_ok-k.was (c.invert.ensures.result_value ∙ sym (negated_is (known_of b.walk))) c.invert.ensures.small_after n
     (λ ns q. one_put (λ y. ok (bit (not (yes y)))) l n b.picked cur c.if-h-eq0.false v (omega (arith, c.requires.0.few_held, c.requires.1)) (ap ok (sym x))) c.done.result c.done.ensures)
-
-pub invert_spec : {M : Type 1} → statement M
-invert_spec =
-    tie.close
-    (tie.spec (λ c κs. search rules) (λ c. search rules) (λ c. search rules) (λ c. search rules) (λ c. search rules) (λ c. search rules) (λ c. search rules) (λ c. search rules) (λ c κs. search rules) (λ c κs. search rules) (λ c. search rules) (λ c. search rules) (λ c κs. search rules) (λ c. search rules) returns-3)
