@@ -30,7 +30,7 @@ use Rattle.lexer.specs.Results.{Step}
 use Rattle.std.specs.Prelude.{Err}
 use Rattle.limits.specs.declared.Refusal.{Refusal}
 use Rattle.limits.specs.declared.Refusal.TheVariants.{NoToken, NotAllowed, TooMany}
-use Rattle.limits.specs.Refusals.{number_of, place_of}
+use Rattle.limits.specs.Refusals.{refusal_number, refusal_place}
 use Rattle.phrases.specs.Inner.Steps.{number_told, Writes}
 use Rattle.phrases.proofs.Writing.{Got, writes, refuses}
 use Rattle.cases.specs.Inner.Kept.{code_of_case, code_of_cases, end_of_condition, Lists}
@@ -151,7 +151,7 @@ pub record Casing (sc : Scope) (w : List ℕ) (limit pick v at to : ℕ) (out₀
 abbrev Answer : (sc : Scope) (w : List ℕ) (limit pick v at to : ℕ) (out₀ from upto out : List ℕ) → Step → Type 0
 Answer sc w limit pick v at to out₀ from upto out r = Writes (code_of_cases pick v) number_told length (cases_from limit sc w [] at) to out₀ out r × Lists (cases_from limit sc w [] at) sc.text from upto
 
-refuse : (sc : Scope) (w : List ℕ) (limit pick v at to : ℕ) (out₀ : List ℕ) {from upto out : List ℕ} {r : Step} {e : Refusal} → r ≡ Err e → cases_from limit sc w [] at ≡ refused (number_of e) (place_of e) → Answer sc w limit pick v at to out₀ from upto out r
+refuse : (sc : Scope) (w : List ℕ) (limit pick v at to : ℕ) (out₀ : List ℕ) {from upto out : List ℕ} {r : Step} {e : Refusal} → r ≡ Err e → cases_from limit sc w [] at ≡ refused (refusal_number e) (refusal_place e) → Answer sc w limit pick v at to out₀ from upto out r
 refuse sc w limit pick v at to out₀ d e = (refuses d e, record { held = λ cs n f. apart (sym f ∙ e); listed = λ cs n f. apart (sym f ∙ e) })
 
 pub casing_first : (sc : Scope) (w : List ℕ) (limit pick v at to : ℕ) (out₀ from upto : List ℕ) → Room sc.text at to → limit ≤ length from → limit ≤ length upto → limit ≤ case_limit → Casing sc w limit pick v at to out₀ from upto out₀ at to 0
@@ -173,10 +173,10 @@ casing_first sc w limit pick v at to out₀ from upto r hf hu hs = record {
 
 module _ {sc : Scope} {w : List ℕ} {limit pick v at to : ℕ} {out₀ from upto out : List ℕ} {a t count : ℕ} (x : Casing sc w limit pick v at to out₀ from upto out a t count) where
   -- the cases come to a refusal
-  refused_so : {from' upto' out' : List ℕ} {r : Step} {e : Refusal} → r ≡ Err e → cases_from (limit - count) sc w x.done a ≡ refused (number_of e) (place_of e) → Answer sc w limit pick v at to out₀ from' upto' out' r
+  refused_so : {from' upto' out' : List ℕ} {r : Step} {e : Refusal} → r ≡ Err e → cases_from (limit - count) sc w x.done a ≡ refused (refusal_number e) (refusal_place e) → Answer sc w limit pick v at to out₀ from' upto' out' r
   refused_so d e = refuse sc w limit pick v at to out₀ d (x.same ∙ e)
 
-  pub casing_fault : {from' upto' out' : List ℕ} {r : Step} {e : Refusal} → r ≡ Err e → (token_at sc.text a ≡ fault (place_of e)) × (e ≡ NoToken (place_of e)) → Answer sc w limit pick v at to out₀ from' upto' out' r
+  pub casing_fault : {from' upto' out' : List ℕ} {r : Step} {e : Refusal} → r ≡ Err e → (token_at sc.text a ≡ fault (refusal_place e)) × (e ≡ NoToken (refusal_place e)) → Answer sc w limit pick v at to out₀ from' upto' out' r
   casing_fault d f = refused_so (d ∙ ap Err f.1) (cases_fault sc w x.done a (limit - count) f.0)
 
   module _ {k s n : ℕ} (f : Found sc.text a k s n) where
@@ -199,11 +199,11 @@ module _ {sc : Scope} {w : List ℕ} {limit pick v at to : ℕ} {out₀ from upt
         some_left : cases_from (limit - count) sc w x.done a ≡ cases_from (suc (limit - (count + 1))) sc w x.done a
         some_left = let e : limit - count ≡ suc (limit - (count + 1)) = omega (arith, more) in ap (λ (l : ℕ). cases_from l sc w x.done a) e
 
-        pub casing_refused : {from' upto' out' : List ℕ} {r : Step} {e : Refusal} → r ≡ Err e → case_at sc w a n ≡ refused (number_of e) (place_of e) → Answer sc w limit pick v at to out₀ from' upto' out' r
+        pub casing_refused : {from' upto' out' : List ℕ} {r : Step} {e : Refusal} → r ≡ Err e → case_at sc w a n ≡ refused (refusal_number e) (refusal_place e) → Answer sc w limit pick v at to out₀ from' upto' out' r
         casing_refused d e = refused_so d (some_left ∙ cases_refused sc w x.done a f.read i (limit - (count + 1)) e)
 
         module _ {out' : List ℕ} {o : Place} (g : Got (code_of_case pick v) number_told end_of_condition (case_at sc w a n) t out out' o) where
-          pub casing_behind : {from' upto' out'' : List ℕ} {r : Step} {e : Refusal} → r ≡ Err e → (token_at sc.text o.at ≡ fault (place_of e)) × (e ≡ NoToken (place_of e)) → Answer sc w limit pick v at to out₀ from' upto' out'' r
+          pub casing_behind : {from' upto' out'' : List ℕ} {r : Step} {e : Refusal} → r ≡ Err e → (token_at sc.text o.at ≡ fault (refusal_place e)) × (e ≡ NoToken (refusal_place e)) → Answer sc w limit pick v at to out₀ from' upto' out'' r
           casing_behind d h = refused_so (d ∙ ap Err h.1) (some_left ∙ cases_behind sc w x.done a f.read i (limit - (count + 1)) g.is h.0)
 
           -- one case more

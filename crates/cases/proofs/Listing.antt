@@ -14,7 +14,7 @@ use Rattle.lexer.specs.Results.{Step}
 use Rattle.std.specs.Prelude.{Ok, Err}
 use Rattle.limits.specs.declared.Refusal.{Refusal}
 use Rattle.limits.specs.declared.Refusal.TheVariants.{NoToken}
-use Rattle.limits.specs.Refusals.{number_of, place_of}
+use Rattle.limits.specs.Refusals.{refusal_number, refusal_place}
 use Rattle.lexer.proofs.Tokens.{Answers, is_token}
 use Rattle.semantics.specs.Program.{Condition}
 use Rattle.grammar.specs.Parsed.{Parsed, accepted, refused, and_then, sign, expected, phrase, followed}
@@ -101,7 +101,7 @@ listing_first r = record { done = []; same = refl; room = r }
 
 module _ {sc : Scope} {at a left : ℕ} (w : Listing sc at a left) where
   -- ... comes to a refusal
-  pub listing_fault : {r : Step} {e : Refusal} → r ≡ Err e → (token_at sc.text a ≡ fault (place_of e)) × (e ≡ NoToken (place_of e)) → parsed_of nothing r ≡ place_only (plain_list sc at)
+  pub listing_fault : {r : Step} {e : Refusal} → r ≡ Err e → (token_at sc.text a ≡ fault (refusal_place e)) × (e ≡ NoToken (refusal_place e)) → parsed_of nothing r ≡ place_only (plain_list sc at)
   listing_fault d f = rw (d ∙ ap Err f.1) (sym (plain_refused sc at (w.same ∙ list_fault sc w.done a left f.0)))
 
   module _ {k s n : ℕ} (f : Found sc.text a k s n) where
@@ -119,7 +119,7 @@ module _ {sc : Scope} {at a left : ℕ} (w : Listing sc at a left) where
       listing_room = record { short = w.room.short; within = f.lies.within w.room.within; room = omega arith }
 
       module _ (i : is (kind_of k) open_square ≡ true) where
-        pub listing_refused : {s : Step} {e : Refusal} → s ≡ Err e → Refuses sc.text (listed sc n) (number_of e) (place_of e) → parsed_of nothing s ≡ place_only (plain_list sc at)
+        pub listing_refused : {s : Step} {e : Refusal} → s ≡ Err e → Refuses sc.text (listed sc n) (refusal_number e) (refusal_place e) → parsed_of nothing s ≡ place_only (plain_list sc at)
         listing_refused d r = rw d (sym (plain_refused sc at (w.same ∙ (some_left ∙ list_refused sc w.done a f.read (left - 1) i r))))
 
         module _ {before after : List ℕ} {h : Place} {t : ℕ} (x : Accepted sc.text bytes_c (listed sc n) 0 before after h t) where

@@ -9,7 +9,7 @@ use Rattle.lexer.specs.declared.Place.{Place}
 use Rattle.lexer.specs.Results.{Step}
 use Rattle.std.specs.Prelude.{Err}
 use Rattle.limits.specs.declared.Refusal.{Refusal}
-use Rattle.limits.specs.Refusals.{number_of, place_of}
+use Rattle.limits.specs.Refusals.{refusal_number, refusal_place}
 use Rattle.grammar.specs.Parsed.{Parsed, accepted, refused, and_then, on_token, Wanted, expected, phrase}
 use Rattle.grammar.proofs.Combine.{apart, same_end}
 use Rattle.phrases.specs.Inner.Steps.{Writes}
@@ -19,7 +19,7 @@ use Rattle.expressions.proofs.Steps.{Refuses, refused_by}
 use Rattle.cases.specs.Inner.Places.{place_only}
 
 -- a refusal of an expression or a condition, passed on
-pub not_read : {A B C : Type 0} {bytes : A → List ℕ} {told : Place → C} {tells : A → C} {p : Parsed A} {to : ℕ} {before after : List ℕ} {text : List ℕ} {code : B → List ℕ} {w : Parsed B} {u : ℕ} {b a : List ℕ} {r : Step} {e : Refusal} → Parses text code w u b a r → r ≡ Err e → (Refuses text w (number_of e) (place_of e) → p ≡ refused (number_of e) (place_of e)) → Writes bytes told tells p to before after r
+pub not_read : {A B C : Type 0} {bytes : A → List ℕ} {told : Place → C} {tells : A → C} {p : Parsed A} {to : ℕ} {before after : List ℕ} {text : List ℕ} {code : B → List ℕ} {w : Parsed B} {u : ℕ} {b a : List ℕ} {r : Step} {e : Refusal} → Parses text code w u b a r → r ≡ Err e → (Refuses text w (refusal_number e) (refusal_place e) → p ≡ refused (refusal_number e) (refusal_place e)) → Writes bytes told tells p to before after r
 not_read c f g = refuses f (g (refused_by c f))
 
 -- ---- what goes on by reading a token is refused where what stands behind the first part is none

@@ -22,7 +22,7 @@ use Rattle.checker.specs.declared.advance.Walk.{Walk}
 use Rattle.checker.specs.declared.timed.Last.{Last}
 use Rattle.std.specs.Prelude.{Some, None}
 use Rattle.checker.specs.Inner.Walk.{known_of, advance_by, Small, initial_walk}
-use Rattle.checker.specs.Inner.Timed.{Turned, RangesStand, LastBy, PlainBy, TimedBy, Turns, TurnsBy}
+use Rattle.checker.specs.Inner.Timed.{AfterTurn, RangesStand, LastBy, PlainBy, TimedBy, Turns, TurnsBy}
 use Rattle.checker.proofs.Walking.{initial_small, initial_known}
 
 -- ---- the instruction before
@@ -109,7 +109,7 @@ module _ (code : List ℕ) (at : ℕ) (w : Walk) (last : Last) (low high start :
   nothing_turns e ns before s b base f = rw (lt-ltb at (length code) l, e)
 
   module _ (next : ℕ) (behind : at < next) (inside : next ≤ length code) where
-    pub plain_turns : (byte n : ℕ) (i : Instruction) → instruction_of byte n ≡ some i → fetch code at ≡ got i next → (r : Turned) → PlainBy byte n next w r → TurnsBy code at w last low high start r
+    pub plain_turns : (byte n : ℕ) (i : Instruction) → instruction_of byte n ≡ some i → fetch code at ≡ got i next → (r : AfterTurn) → PlainBy byte n next w r → TurnsBy code at w last low high start r
     plain_turns byte n i is e (Some (k, m, to)) p =
         rw p.3
         (record {
@@ -123,7 +123,7 @@ module _ (code : List ℕ) (at : ℕ) (w : Walk) (last : Last) (low high start :
     plain_turns byte n i is e None p =
         λ ns before s b base f. let q : advance i (known_of w) ≡ none = sym (ap (λ (o : Option Instruction). advance_by o (known_of w)) is) ∙ p in rw (lt-ltb at (length code) l, e, suits_timeless ns before (signature i).role (code_timeless byte n i is), q)
 
-    pub timer_turns : (t v n : ℕ) → fetch code at ≡ got (timer t v n) next → (r : Turned) → TimedBy t v n next w last low high start r → TurnsBy code at w last low high start r
+    pub timer_turns : (t v n : ℕ) → fetch code at ≡ got (timer t v n) next → (r : AfterTurn) → TimedBy t v n next w last low high start r → TurnsBy code at w last low high start r
     timer_turns t v n e (Some (k, m, to)) p =
         rw p.4
         (record {

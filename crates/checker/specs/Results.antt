@@ -3,7 +3,7 @@ use Rattle.std.specs.Prelude.{◌≡◌, false, List, ℕ, ◌+◌, ◌≤◌, l
 use Rattle.std.proofs.Math.Option.{Option}
 use Rattle.limits.specs.Limits.{image_limit, broken_image}
 use Rattle.limits.specs.Answer.{Answer, accepted, refused}
-use Rattle.limits.specs.Refusals.{place_of}
+use Rattle.limits.specs.Refusals.{refusal_place}
 use Rattle.limits.specs.declared.Refusal.{Refusal}
 use Rattle.semantics.specs.Program.{Range}
 use Rattle.semantics.specs.Shape.{has_timer}
@@ -19,7 +19,7 @@ use Rattle.checker.specs.declared.Verdict.TheVariants as J
 -- a place is inside an image of allowed length, or at its end
 abbrev pub CheckedWithin : Result (Unit {0}) Refusal → Type 0
 CheckedWithin (Ok _) = Unit {0}
-CheckedWithin (Err e) = place_of e ≤ image_limit
+CheckedWithin (Err e) = refusal_place e ≤ image_limit
 
 -- ---- check that tells sound images without timers apart
 
@@ -27,7 +27,7 @@ CheckedWithin (Err e) = place_of e ≤ image_limit
 abbrev pub SurveyedBy : List ℕ → Result Surveyed Refusal → Type 0
 SurveyedBy image (Ok Plain) = has_timer (limits_of image) ≡ false
 SurveyedBy image (Ok Timed) = Unit {0}
-SurveyedBy image (Err e) = place_of e ≤ image_limit
+SurveyedBy image (Err e) = refusal_place e ≤ image_limit
 
 -- ---- the walk alone
 

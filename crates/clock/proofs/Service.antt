@@ -28,7 +28,7 @@ use Rattle.expressions.proofs.Scopes.{names_length}
 use Rattle.std.specs.Prelude.{Ok, Err}
 use Rattle.limits.specs.declared.Refusal.{Refusal}
 use Rattle.limits.specs.declared.Refusal.TheVariants.{BrokenTable, MinuteOutOfLimit, WrongLength}
-use Rattle.limits.specs.Refusals.{number_of, place_of}
+use Rattle.limits.specs.Refusals.{refusal_number, refusal_place}
 use Rattle.clock.specs.Clock.{Entry, entries_of, is_minute, is_table, local_at, day_of, minute_of, again_of}
 use Rattle.clock.specs.Services.{inputs_of, filled_at, row_filled, fill_of}
 use Rattle.clock.specs.Inner.Rows.{row_for}
@@ -134,7 +134,7 @@ minute_fits (pos n) e = let h : n ≤ 2147483647 = leb-true n 2147483647 (and_bo
 minute_fits (negsuc n) e = let z : ◌≡◌ {A = ℕ} 0 1 = cc in absurd (omega arith)
 
 module _ (text : List ℕ) (table : List ℤ) (utc : ℤ) (row : List ℤ) where
-  pub text_refused : (e : Refusal) → parse text ≡ refused (number_of e) (place_of e) → (after_fill (Err e) row ≡ fill_of text table utc row) × FilledWithin (Err e)
+  pub text_refused : (e : Refusal) → parse text ≡ refused (refusal_number e) (refusal_place e) → (after_fill (Err e) row ≡ fill_of text table utc row) × FilledWithin (Err e)
   unfolding fill_of program_of
   text_refused x e = (rw e, (subst (Placed text_limit) e (parse_limited text)).1)
 

@@ -26,7 +26,7 @@ use Rattle.lexer.specs.Results.{Step}
 use Rattle.std.specs.Prelude.{Err}
 use Rattle.limits.specs.declared.Refusal.{Refusal}
 use Rattle.limits.specs.declared.Refusal.TheVariants.{NoToken}
-use Rattle.limits.specs.Refusals.{number_of, place_of}
+use Rattle.limits.specs.Refusals.{refusal_number, refusal_place}
 use Rattle.phrases.specs.Inner.Steps.{parsed_of, nothing, value_told}
 use Rattle.declarations.specs.Inner.Ranges.{signed_by}
 use Rattle.declarations.specs.Inner.Bounds.{bounded_number}
@@ -115,10 +115,10 @@ module _ (low high : ℤ) (fl : SFits w32 low) (fh : SFits w32 high) where
 
 -- ---- refusals passed on
 
-pub no_token_lem : {r : Step} {e : Refusal} → r ≡ Err e → e ≡ NoToken (place_of e) → parsed_of value_told r ≡ refused no_token (place_of e)
+pub no_token_lem : {r : Step} {e : Refusal} → r ≡ Err e → e ≡ NoToken (refusal_place e) → parsed_of value_told r ≡ refused no_token (refusal_place e)
 no_token_lem g f = ap (parsed_of value_told) (g ∙ ap Err f)
 
-pub no_sign : {r : Step} {e : Refusal} (p : Parsed (Unit {0})) → parsed_of nothing r ≡ p → r ≡ Err e → (p ≡ refused (number_of e) (place_of e)) × (parsed_of value_told r ≡ refused (number_of e) (place_of e))
+pub no_sign : {r : Step} {e : Refusal} (p : Parsed (Unit {0})) → parsed_of nothing r ≡ p → r ≡ Err e → (p ≡ refused (refusal_number e) (refusal_place e)) × (parsed_of value_told r ≡ refused (refusal_number e) (refusal_place e))
 no_sign p h g = (sym h ∙ ap (parsed_of nothing) g, rw g)
 
 -- ---- bounds that were held in locals

@@ -12,7 +12,7 @@ use Rattle.lexer.specs.declared.Place.{Place}
 use Rattle.lexer.specs.Results.{Step}
 use Rattle.std.specs.Prelude.{Ok, Err}
 use Rattle.limits.specs.declared.Refusal.{Refusal}
-use Rattle.limits.specs.Refusals.{number_of, place_of}
+use Rattle.limits.specs.Refusals.{refusal_number, refusal_place}
 use Rattle.phrases.specs.Inner.Steps.{parsed_of, nothing, answered, Writes}
 use Rattle.phrases.proofs.Writing.{got, refuses}
 use Rattle.grammar.proofs.Combine.{then_then, never}
@@ -57,7 +57,7 @@ module _ (text starts ends : List ℕ) (at to count : ℕ) (before mid starts' e
     pub unnamed : {e : Refusal} → named ≡ Err e → Answers named
     unnamed {e} g = (
       λ names held.
-          let i = no_new_name text names at _ _ (refused_then (λ (x : List ℕ). tt {0}) (new_name text names at) (number_of e) (place_of e) (sym (h names held).answer ∙ ap (parsed_of nothing) g)) in
+          let i = no_new_name text names at _ _ (refused_then (λ (x : List ℕ). tt {0}) (new_name text names at) (refusal_number e) (refusal_place e) (sym (h names held).answer ∙ ap (parsed_of nothing) g)) in
           record { writes = refuses g i; named = λ y n f. never _ _ n y (sym i ∙ f); ranged = λ stand y n f. never _ _ n y (sym i ∙ f) },
       λ y f. step_refused (sym g ∙ f),
     )

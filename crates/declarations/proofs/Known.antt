@@ -18,7 +18,7 @@ use Rattle.lexer.specs.declared.Place.{Place}
 use Rattle.lexer.specs.Results.{Step}
 use Rattle.std.specs.Prelude.{Ok, Err}
 use Rattle.limits.specs.declared.Refusal.{Refusal}
-use Rattle.limits.specs.Refusals.{number_of, place_of}
+use Rattle.limits.specs.Refusals.{refusal_number, refusal_place}
 use Rattle.phrases.proofs.Writing.{got, refused_part}
 use Rattle.declarations.specs.Inner.Tables.{TableHolds, RangesBehind, header_after, DeclaresAll}
 use Rattle.declarations.proofs.Loop.{header_append}
@@ -56,7 +56,7 @@ module _ (word : Kind) (text : List ℕ) (names : List Name) (at to : ℕ) (befo
         stand = λ h. d.ranged h a.tree x.at a.is;
       }
 
-  pub not_declared : {e : Refusal} → r ≡ Err e → declarations word text names at ≡ refused (number_of e) (place_of e)
+  pub not_declared : {e : Refusal} → r ≡ Err e → declarations word text names at ≡ refused (refusal_number e) (refusal_place e)
   not_declared g = refused_part d.writes g
 
 -- ---- names are added behind those declared before

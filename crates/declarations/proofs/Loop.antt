@@ -15,7 +15,7 @@ use Rattle.lexer.specs.Results.{Step}
 use Rattle.std.specs.Prelude.{Ok, Err}
 use Rattle.limits.specs.declared.Refusal.{Refusal}
 use Rattle.limits.specs.declared.Refusal.TheVariants.{NoToken}
-use Rattle.limits.specs.Refusals.{number_of, place_of}
+use Rattle.limits.specs.Refusals.{refusal_number, refusal_place}
 use Rattle.semantics.specs.Program.{Name}
 use Rattle.grammar.specs.Parsed.{accepted, refused}
 use Rattle.grammar.specs.Declarations.{declaration, declarations_from, declarations}
@@ -77,12 +77,12 @@ module _ (word : Kind) (text : List ℕ) (names : List Name) (at to : ℕ) (befo
     wrote = refl;
   }
 
-  refuses : (after' ends₀ starts ends : List ℕ) {r : Step} (e : Refusal) → r ≡ Err e → declarations word text names at ≡ refused (number_of e) (place_of e) → DeclaresAll word text names at to before after' ends₀ starts ends r
+  refuses : (after' ends₀ starts ends : List ℕ) {r : Step} (e : Refusal) → r ≡ Err e → declarations word text names at ≡ refused (refusal_number e) (refusal_place e) → DeclaresAll word text names at to before after' ends₀ starts ends r
   refuses after' ends₀ starts ends e h f = record { writes = W.refuses h f; named = λ all n g. never _ _ n all (sym f ∙ g); ranged = λ stand all n g. never _ _ n all (sym f ∙ g) }
 
   module _ (ends₀ starts ends after' : List ℕ) (a known t : ℕ) (g : Going word text names at to before ends₀ starts ends after' a known t) where
-    pub stops_fault : {r : Step} {e : Refusal} → r ≡ Err e → (token_at text a ≡ fault (place_of e)) × (e ≡ NoToken (place_of e)) → DeclaresAll word text names at to before after' ends₀ starts ends r
-    stops_fault {e = e} h f = refuses after' ends₀ starts ends _ (h ∙ ap Err f.1) (g.goes ∙ turn_fault g.fuel word text (names ++ g.new) a (place_of e) f.0)
+    pub stops_fault : {r : Step} {e : Refusal} → r ≡ Err e → (token_at text a ≡ fault (refusal_place e)) × (e ≡ NoToken (refusal_place e)) → DeclaresAll word text names at to before after' ends₀ starts ends r
+    stops_fault {e = e} h f = refuses after' ends₀ starts ends _ (h ∙ ap Err f.1) (g.goes ∙ turn_fault g.fuel word text (names ++ g.new) a (refusal_place e) f.0)
 
     module _ (k : Kind) (s n : ℕ) (e : token_at text a ≡ token k s n) where
       pub ends_all : {r : Step} → r ≡ reached_at a t known → is k word ≡ false → DeclaresAll word text names at to before after' ends₀ starts ends r

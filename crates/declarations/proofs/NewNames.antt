@@ -25,7 +25,7 @@ use Rattle.lexer.specs.Results.{Step}
 use Rattle.std.specs.Prelude.{Ok, Err, Option, Some, None, is_some}
 use Rattle.limits.specs.declared.Refusal.{Refusal}
 use Rattle.limits.specs.declared.Refusal.TheVariants.{NoToken, NotAllowed, TooMany, WrongName}
-use Rattle.limits.specs.Refusals.{number_of, place_of}
+use Rattle.limits.specs.Refusals.{refusal_number, refusal_place}
 use Rattle.grammar.proofs.Combine.{same_value, same_end, never}
 use Rattle.declarations.specs.Inner.Tables.{TableRoom, TableHolds, Names}
 use Rattle.declarations.proofs.Entries.{step_refused}
@@ -76,12 +76,12 @@ module _ (text starts ends : List ℕ) (at count : ℕ) (starts' ends' : List �
   abbrev Answers : Step → Type 0
   Answers r = ((names : List Name) → TableHolds text starts ends count names → Names text names at count ends starts' ends' r) × ((x : Place) → r ≡ Ok x → count < 64)
 
-  refuses : {r : Step} (e : Refusal) → r ≡ Err e → ((names : List Name) → TableHolds text starts ends count names → new_name text names at ≡ refused (number_of e) (place_of e)) → Answers r
+  refuses : {r : Step} (e : Refusal) → r ≡ Err e → ((names : List Name) → TableHolds text starts ends count names → new_name text names at ≡ refused (refusal_number e) (refusal_place e)) → Answers r
   refuses e g f =
       (λ names h. record { answer = rw (g, f names h); named = λ w n i. never _ _ n w (sym (f names h) ∙ i); ended = λ w n i. never _ _ n w (sym (f names h) ∙ i) }, λ x i. step_refused (sym g ∙ i))
 
-  pub faulty_name : {r : Step} (e : Refusal) → r ≡ Err e → (token_at text at ≡ fault (place_of e)) × (e ≡ NoToken (place_of e)) → Answers r
-  faulty_name e g f = refuses _ (g ∙ ap Err f.1) (λ names h. name_fault text names at (place_of e) f.0)
+  pub faulty_name : {r : Step} (e : Refusal) → r ≡ Err e → (token_at text at ≡ fault (refusal_place e)) × (e ≡ NoToken (refusal_place e)) → Answers r
+  faulty_name e g f = refuses _ (g ∙ ap Err f.1) (λ names h. name_fault text names at (refusal_place e) f.0)
 
   module _ (k : Kind) (s n : ℕ) (e : token_at text at ≡ token k s n) where
     pub refuses_other : is k name ≡ false → Answers (Err (NotAllowed s))

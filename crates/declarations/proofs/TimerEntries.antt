@@ -14,7 +14,7 @@ use Rattle.lexer.specs.declared.Place.{Place}
 use Rattle.lexer.specs.Results.{Step}
 use Rattle.std.specs.Prelude.{Ok, Err}
 use Rattle.limits.specs.declared.Refusal.{Refusal}
-use Rattle.limits.specs.Refusals.{number_of, place_of}
+use Rattle.limits.specs.Refusals.{refusal_number, refusal_place}
 use Rattle.phrases.specs.Inner.Steps.{parsed_of, nothing}
 use Rattle.lexer.specs.Results.{reached_at}
 use Rattle.phrases.proofs.Writing.{writes, refuses}
@@ -106,7 +106,7 @@ module _ (text starts ends watched limits : List ℕ) (inputs first at to count 
   Answers watched' limits' mid r =
       ((x : WithTimers) → TimersHeld text starts ends watched limits first count x → TimerDeclared text inputs first x at to count before mid starts' ends' watched' limits' r) × ((x : Place) → r ≡ Ok x → (count < 64) × (x.to ≤ to + 15))
 
-  refuses_timer : (watched' limits' mid : List ℕ) {r : Step} {e : Refusal} → r ≡ Err e → ((x : WithTimers) → TimersHeld text starts ends watched limits first count x → timer_declaration text inputs first x at ≡ refused (number_of e) (place_of e)) → Answers watched' limits' mid r
+  refuses_timer : (watched' limits' mid : List ℕ) {r : Step} {e : Refusal} → r ≡ Err e → ((x : WithTimers) → TimersHeld text starts ends watched limits first count x → timer_declaration text inputs first x at ≡ refused (refusal_number e) (refusal_place e)) → Answers watched' limits' mid r
   refuses_timer watched' limits' mid g h = (
     λ x held. record { writes = refuses g (h x held); held = λ y n f. never _ _ n y (sym (h x held) ∙ f) },
     λ x f. step_refused (sym g ∙ f),
@@ -115,7 +115,7 @@ module _ (text starts ends watched limits : List ℕ) (inputs first at to count 
   module _ {named : Step} (h : (names : List Name) → TableHolds text starts ends count names → Names text names at count ends starts' ends' named) where
     pub timer_unnamed : (watched' limits' mid : List ℕ) {e : Refusal} → named ≡ Err e → Answers watched' limits' mid named
     timer_unnamed watched' limits' mid {e} g = refuses_timer watched' limits' mid g
-        (λ x held. no_timer_name text inputs first x at _ _ (refused_then (λ (w : List ℕ). tt {0}) (new_name text x.names at) (number_of e) (place_of e) (sym (h x.names held.known.table).answer ∙ ap (parsed_of nothing) g)))
+        (λ x held. no_timer_name text inputs first x at _ _ (refused_then (λ (w : List ℕ). tt {0}) (new_name text x.names at) (refusal_number e) (refusal_place e) (sym (h x.names held.known.table).answer ∙ ap (parsed_of nothing) g)))
 
     watch_more : (names : List Name) → Watchables text starts ends count first names → (t : List ℕ) (n : ℕ) → new_name text names at ≡ accepted t n → Watchables text starts' ends' (count + 1) first (names ++ (timer_name t ∷ []))
     watch_more names k t n e =

@@ -15,7 +15,7 @@ use Rattle.lexer.specs.Results.{Step}
 use Rattle.std.specs.Prelude.{Ok, Err}
 use Rattle.limits.specs.declared.Refusal.{Refusal}
 use Rattle.limits.specs.declared.Refusal.TheVariants.{NoToken}
-use Rattle.limits.specs.Refusals.{number_of, place_of}
+use Rattle.limits.specs.Refusals.{refusal_number, refusal_place}
 use Rattle.semantics.specs.Program.{Name, bit_range}
 use Rattle.grammar.specs.Parsed.{accepted, refused, item_bound}
 use Rattle.grammar.specs.Timers.{timer_name, WithTimers, timer_declaration, timers_from}
@@ -86,12 +86,12 @@ module _ (text : List ℕ) (inputs first : ℕ) (x : WithTimers) (at to : ℕ) (
         wrote = rw none refl;
       }
 
-  refuses : (after' starts ends watched limits : List ℕ) {r : Step} (e : Refusal) → r ≡ Err e → timers_from item_bound text inputs first x at ≡ refused (number_of e) (place_of e) → DeclaresTimers text inputs first x at to before after' starts ends watched limits r
+  refuses : (after' starts ends watched limits : List ℕ) {r : Step} (e : Refusal) → r ≡ Err e → timers_from item_bound text inputs first x at ≡ refused (refusal_number e) (refusal_place e) → DeclaresTimers text inputs first x at to before after' starts ends watched limits r
   refuses after' starts ends watched limits e h f = record { writes = W.refuses h f; held = λ y n i. never _ _ n y (sym f ∙ i) }
 
   module _ (starts ends watched limits after' : List ℕ) (a known t : ℕ) (g : TimersGoing text inputs first x at to before starts ends watched limits after' a known t) where
-    pub stops_fault : {r : Step} {e : Refusal} → r ≡ Err e → (token_at text a ≡ fault (place_of e)) × (e ≡ NoToken (place_of e)) → DeclaresTimers text inputs first x at to before after' starts ends watched limits r
-    stops_fault {e = e} h f = refuses after' starts ends watched limits _ (h ∙ ap Err f.1) (g.goes ∙ turn_fault g.fuel text inputs first g.all a (place_of e) f.0)
+    pub stops_fault : {r : Step} {e : Refusal} → r ≡ Err e → (token_at text a ≡ fault (refusal_place e)) × (e ≡ NoToken (refusal_place e)) → DeclaresTimers text inputs first x at to before after' starts ends watched limits r
+    stops_fault {e = e} h f = refuses after' starts ends watched limits _ (h ∙ ap Err f.1) (g.goes ∙ turn_fault g.fuel text inputs first g.all a (refusal_place e) f.0)
 
     module _ (k : Kind) (s n : ℕ) (e : token_at text a ≡ token k s n) where
       pub ends_all : {r : Step} → r ≡ reached_at a t known → is k timer_word ≡ false → DeclaresTimers text inputs first x at to before after' starts ends watched limits r

@@ -18,7 +18,7 @@ use Rattle.lexer.specs.Results.{Step}
 use Rattle.std.specs.Prelude.{Ok, Err}
 use Rattle.limits.specs.declared.Refusal.{Refusal}
 use Rattle.limits.specs.declared.Refusal.TheVariants.{NotAllowed, NoToken}
-use Rattle.limits.specs.Refusals.{number_of, place_of}
+use Rattle.limits.specs.Refusals.{refusal_number, refusal_place}
 use Rattle.lexer.proofs.Laws.{cond_prop, token_at_moved}
 use Rattle.grammar.specs.Parsed.{Parsed, accepted, refused, and_then, on_token, sign, expected, phrase, followed}
 use Rattle.grammar.proofs.Growth.{Grown}
@@ -104,7 +104,7 @@ module _ {A : Type 0} {text : List ℕ} {code : A → List ℕ} {p : Parsed A} {
           wrote = g.wrote;
         }
 
-    pub refused_by : {e : Refusal} → r ≡ Err e → Refuses text p (number_of e) (place_of e)
+    pub refused_by : {e : Refusal} → r ≡ Err e → Refuses text p (refusal_number e) (refusal_place e)
     refused_by e = record { looked = refused_part c.writes e }
 
   -- ---- and made
@@ -125,7 +125,7 @@ module _ {A : Type 0} {text : List ℕ} {code : A → List ℕ} {p : Parsed A} {
   pub accepts_up_to : {r : Step} {h : Place} {t : ℕ} → r ≡ Ok (up_to h t) → Accepted text code p to before after h t → Parses text code p to before after r
   accepts_up_to {t = t} e a = accepts e (record { tree = a.tree; is = a.is; stands = stands_up_to t a.stands; count = a.count; wrote = a.wrote })
 
-  pub refuses : {e : Refusal} → Refuses text p (number_of e) (place_of e) → Parses text code p to before after (Err e)
+  pub refuses : {e : Refusal} → Refuses text p (refusal_number e) (refusal_place e) → Parses text code p to before after (Err e)
   refuses e = record { writes = W.refuses refl e.looked }
 
   -- a step's answer under another name, and of the same part
@@ -136,7 +136,7 @@ module _ {A : Type 0} {text : List ℕ} {code : A → List ℕ} {p : Parsed A} {
   same_part {r = r} e c = subst (λ (x : Parsed A). Parses text code x to before after r) (sym e) c
 
 -- a refusal passed on, where it refuses a larger part too
-pub passed : {A B : Type 0} {text : List ℕ} {code : A → List ℕ} {more : B → List ℕ} {p : Parsed A} {w : Parsed B} {to u : ℕ} {b a before after : List ℕ} {r : Step} {e : Refusal} → Parses text code p u b a r → r ≡ Err e → (Refuses text p (number_of e) (place_of e) → Refuses text w (number_of e) (place_of e)) → Parses text more w to before after r
+pub passed : {A B : Type 0} {text : List ℕ} {code : A → List ℕ} {more : B → List ℕ} {p : Parsed A} {w : Parsed B} {to u : ℕ} {b a before after : List ℕ} {r : Step} {e : Refusal} → Parses text code p u b a r → r ≡ Err e → (Refuses text p (refusal_number e) (refusal_place e) → Refuses text w (refusal_number e) (refusal_place e)) → Parses text more w to before after r
 passed c e f = answers e (refuses (f (refused_by c e)))
 
 -- a refusal of the part itself
@@ -196,9 +196,9 @@ module _ (text : List ℕ) (at to : ℕ) {r : Step} where
   pub ahead_fault : {A : Type 0} {code : A → List ℕ} {p : Parsed A} {u : ℕ} {before after : List ℕ} {e : Refusal} → r ≡ Err e → r ≡ step_at (token_at text at) at to → ((m : ℕ) → token_at text at ≡ fault m → p ≡ refused no_token m) → Parses text code p u before after r
   ahead_fault {p = p} {e = x} d e f = answers d (refuses (refused_now (go (token_at text at) refl (sym d ∙ e))))
     where
-      go : (w : TokenRead) → token_at text at ≡ w → Err x ≡ step_at w at to → p ≡ refused (number_of x) (place_of x)
+      go : (w : TokenRead) → token_at text at ≡ w → Err x ≡ step_at w at to → p ≡ refused (refusal_number x) (refusal_place x)
       go (token w s m) i c = done_refused (sym c)
-      go (fault m) i c = let j : NoToken m ≡ x = cc in f m i ∙ ap (λ (y : Refusal). refused (number_of y) (place_of y)) j
+      go (fault m) i c = let j : NoToken m ≡ x = cc in f m i ∙ ap (λ (y : Refusal). refused (refusal_number y) (refusal_place y)) j
 
 -- an accepted part that ends at n, behind which `ahead` read
 pub ended : {A : Type 0} {text : List ℕ} {code : A → List ℕ} {p : Parsed A} {to t n : ℕ} {before after : List ℕ} {r : Step} (a : A) → p ≡ accepted a n → t ≡ to + length (code a) → after ≡ sets before to (code a) → r ≡ step_at (token_at text n) n t → Parses text code p to before after r
@@ -227,10 +227,10 @@ recoded {A} {B} {text} {code} {more} {to} {n} {before} {after} {r} {a} b c e = g
         })
     go (Err x) d = answers d (refuses (record { looked = behind (refused_by c d).looked }))
       where
-        behind : looked_ahead text (accepted a n) ≡ refused (number_of x) (place_of x) → looked_ahead text (accepted b n) ≡ refused (number_of x) (place_of x)
+        behind : looked_ahead text (accepted a n) ≡ refused (refusal_number x) (refusal_place x) → looked_ahead text (accepted b n) ≡ refused (refusal_number x) (refusal_place x)
         behind f = by (token_at text n) f
           where
-            by : (w : TokenRead) → ◌≡◌ {A = Parsed (Followed A)} (on_token w (λ k s m. accepted (record { part = a; kind = k; start = s; end = m }) n)) (refused (number_of x) (place_of x)) → ◌≡◌ {A = Parsed (Followed B)} (on_token w (λ k s m. accepted (record { part = b; kind = k; start = s; end = m }) n)) (refused (number_of x) (place_of x))
+            by : (w : TokenRead) → ◌≡◌ {A = Parsed (Followed A)} (on_token w (λ k s m. accepted (record { part = a; kind = k; start = s; end = m }) n)) (refused (refusal_number x) (refusal_place x)) → ◌≡◌ {A = Parsed (Followed B)} (on_token w (λ k s m. accepted (record { part = b; kind = k; start = s; end = m }) n)) (refused (refusal_number x) (refusal_place x))
             by (token w s m) f = apart f
             by (fault m) f = same_refusal f
 

@@ -18,7 +18,7 @@ use Rattle.lexer.specs.Results.{Step}
 use Rattle.std.specs.Prelude.{Ok, Err}
 use Rattle.limits.specs.declared.Refusal.{Refusal}
 use Rattle.limits.specs.declared.Refusal.TheVariants.{NoToken}
-use Rattle.limits.specs.Refusals.{place_of}
+use Rattle.limits.specs.Refusals.{refusal_place}
 use Rattle.lexer.proofs.Laws.{cond_prop, run_out, token_at_moved}
 use Rattle.lexer.proofs.KindNumbers.{ending_number, is_unknown, is_known, number_kind, known_number}
 
@@ -164,10 +164,10 @@ module _ (text : List ℕ) (at : ℕ) where
           rw (i, number_kind k)
       go (fault q) e = let z : ◌≡◌ {A = ℕ} 0 1 = cc in absurd (omega arith)
 
-  fault_is : (e : Refusal) → Err e ≡ token_step (token_at text at) → (token_at text at ≡ fault (place_of e)) × (e ≡ NoToken (place_of e))
+  fault_is : (e : Refusal) → Err e ≡ token_step (token_at text at) → (token_at text at ≡ fault (refusal_place e)) × (e ≡ NoToken (refusal_place e))
   fault_is e h = go (token_at text at) h
     where
-      go : (r : TokenRead) → Err e ≡ token_step r → (r ≡ fault (place_of e)) × (e ≡ NoToken (place_of e))
+      go : (r : TokenRead) → Err e ≡ token_step r → (r ≡ fault (refusal_place e)) × (e ≡ NoToken (refusal_place e))
       go (token w s n) e = let z : ◌≡◌ {A = ℕ} 0 1 = cc in absurd (omega arith)
       go (fault p) h = let i : e ≡ NoToken p = cc in rw i (refl, refl)
 
@@ -221,5 +221,5 @@ module _ (text : List ℕ) (at : ℕ) (t : Step) (a : Answers text at t) where
   pub is_token : (p : Place) → t ≡ Ok p → (token_at text at ≡ token (kind_of p.kind) p.start p.end) × Lies (length text) at p.kind p.start p.end
   is_token p e = (sym (token_is_lem text at p (sym e ∙ a.0)), subst (PlacedIn (length text) at) e a.1)
 
-  pub is_fault : (e : Refusal) → t ≡ Err e → (token_at text at ≡ fault (place_of e)) × (e ≡ NoToken (place_of e))
+  pub is_fault : (e : Refusal) → t ≡ Err e → (token_at text at ≡ fault (refusal_place e)) × (e ≡ NoToken (refusal_place e))
   is_fault e h = fault_is text at e (sym h ∙ a.0)

@@ -6,77 +6,77 @@ use Rattle.limits.specs.declared.Refusal.{Refusal}
 use Rattle.limits.specs.declared.Refusal.TheVariants.{NoToken, NotAllowed, OutOfLimit, WrongName, TooEarly, WrongRule, ListsDiffer, TooMany, TooLong, BufferTooShort, BrokenImage, WrongLength, InputOutOfRange, Overflow, SecondTrueCase, EqualToPrevious, ValueOutOfRange, StateOutOfRange, BrokenTable, MinuteOutOfLimit, NotInSt, WrongDirection, WrongTimer, StateDiffers, OutOfShare, NotSmall, NotClosed, NotChargeable, ChargeTooLarge, TooManyWatches}
 
 -- its number
-abbrev pub number_of : Refusal → ℕ
-number_of (NoToken at) = no_token
-number_of (NotAllowed at) = not_allowed
-number_of (OutOfLimit at) = out_of_limit
-number_of (WrongName at) = wrong_name
-number_of (TooEarly at) = too_early
-number_of (WrongRule at) = wrong_rule
-number_of (ListsDiffer at) = lists_differ
-number_of (TooMany at) = too_many
-number_of TooLong = too_long
-number_of (BufferTooShort at) = buffer_too_short
-number_of (BrokenImage at) = broken_image
-number_of WrongLength = wrong_length
-number_of InputOutOfRange = input_out_of_range
-number_of Overflow = overflow
-number_of SecondTrueCase = second_true_case
-number_of EqualToPrevious = equal_to_previous
-number_of ValueOutOfRange = value_out_of_range
-number_of StateOutOfRange = state_out_of_range
-number_of BrokenTable = broken_table
-number_of MinuteOutOfLimit = minute_out_of_limit
-number_of (NotInSt at) = not_in_st
-number_of WrongDirection = wrong_direction
-number_of (WrongTimer at) = wrong_timer
-number_of StateDiffers = state_differs
-number_of OutOfShare = out_of_share
-number_of NotSmall = not_small
-number_of (NotClosed at) = not_closed
-number_of NotChargeable = not_chargeable
-number_of ChargeTooLarge = charge_too_large
-number_of (TooManyWatches at) = too_many_watches
+abbrev pub refusal_number : Refusal → ℕ
+refusal_number (NoToken at) = no_token
+refusal_number (NotAllowed at) = not_allowed
+refusal_number (OutOfLimit at) = out_of_limit
+refusal_number (WrongName at) = wrong_name
+refusal_number (TooEarly at) = too_early
+refusal_number (WrongRule at) = wrong_rule
+refusal_number (ListsDiffer at) = lists_differ
+refusal_number (TooMany at) = too_many
+refusal_number TooLong = too_long
+refusal_number (BufferTooShort at) = buffer_too_short
+refusal_number (BrokenImage at) = broken_image
+refusal_number WrongLength = wrong_length
+refusal_number InputOutOfRange = input_out_of_range
+refusal_number Overflow = overflow
+refusal_number SecondTrueCase = second_true_case
+refusal_number EqualToPrevious = equal_to_previous
+refusal_number ValueOutOfRange = value_out_of_range
+refusal_number StateOutOfRange = state_out_of_range
+refusal_number BrokenTable = broken_table
+refusal_number MinuteOutOfLimit = minute_out_of_limit
+refusal_number (NotInSt at) = not_in_st
+refusal_number WrongDirection = wrong_direction
+refusal_number (WrongTimer at) = wrong_timer
+refusal_number StateDiffers = state_differs
+refusal_number OutOfShare = out_of_share
+refusal_number NotSmall = not_small
+refusal_number (NotClosed at) = not_closed
+refusal_number NotChargeable = not_chargeable
+refusal_number ChargeTooLarge = charge_too_large
+refusal_number (TooManyWatches at) = too_many_watches
 
 -- the place that it names; a refusal without a place has place 0
-abbrev pub place_of : Refusal → ℕ
-place_of (NoToken at) = at
-place_of (NotAllowed at) = at
-place_of (OutOfLimit at) = at
-place_of (WrongName at) = at
-place_of (TooEarly at) = at
-place_of (WrongRule at) = at
-place_of (ListsDiffer at) = at
-place_of (TooMany at) = at
-place_of TooLong = 0
-place_of (BufferTooShort at) = at
-place_of (BrokenImage at) = at
-place_of WrongLength = 0
-place_of InputOutOfRange = 0
-place_of Overflow = 0
-place_of SecondTrueCase = 0
-place_of EqualToPrevious = 0
-place_of ValueOutOfRange = 0
-place_of StateOutOfRange = 0
-place_of BrokenTable = 0
-place_of MinuteOutOfLimit = 0
-place_of (NotInSt at) = at
-place_of WrongDirection = 0
-place_of (WrongTimer at) = at
-place_of StateDiffers = 0
-place_of OutOfShare = 0
-place_of NotSmall = 0
-place_of (NotClosed at) = at
-place_of NotChargeable = 0
-place_of ChargeTooLarge = 0
-place_of (TooManyWatches at) = at
+abbrev pub refusal_place : Refusal → ℕ
+refusal_place (NoToken at) = at
+refusal_place (NotAllowed at) = at
+refusal_place (OutOfLimit at) = at
+refusal_place (WrongName at) = at
+refusal_place (TooEarly at) = at
+refusal_place (WrongRule at) = at
+refusal_place (ListsDiffer at) = at
+refusal_place (TooMany at) = at
+refusal_place TooLong = 0
+refusal_place (BufferTooShort at) = at
+refusal_place (BrokenImage at) = at
+refusal_place WrongLength = 0
+refusal_place InputOutOfRange = 0
+refusal_place Overflow = 0
+refusal_place SecondTrueCase = 0
+refusal_place EqualToPrevious = 0
+refusal_place ValueOutOfRange = 0
+refusal_place StateOutOfRange = 0
+refusal_place BrokenTable = 0
+refusal_place MinuteOutOfLimit = 0
+refusal_place (NotInSt at) = at
+refusal_place WrongDirection = 0
+refusal_place (WrongTimer at) = at
+refusal_place StateDiffers = 0
+refusal_place OutOfShare = 0
+refusal_place NotSmall = 0
+refusal_place (NotClosed at) = at
+refusal_place NotChargeable = 0
+refusal_place ChargeTooLarge = 0
+refusal_place (TooManyWatches at) = at
 
 -- the answer that a result stands for
 abbrev pub stands_for : {A : Type 0} → Result A Refusal → Answer A
 stands_for (Ok a) = accepted a
-stands_for (Err e) = refused (number_of e) (place_of e)
+stands_for (Err e) = refused (refusal_number e) (refusal_place e)
 
 -- the same of a result that holds more than the answer says
 abbrev pub judged_by : {A : Type 0} → Result A Refusal → Answer (Unit {0})
 judged_by (Ok a) = accepted tt
-judged_by (Err e) = refused (number_of e) (place_of e)
+judged_by (Err e) = refused (refusal_number e) (refusal_place e)

@@ -8,7 +8,7 @@ ghost use Rattle.bytecode.specs.Instructions.{gate as gating, pick as picking, a
 ghost use Rattle.machine.specs.Step.{perform};
 ghost use Rattle.machine.specs.Inner.Memory.{held_of, step_outcome, RangesIn, Stack, Few, OneEach};
 ghost use Rattle.machine.specs.Inner.Groups.{OnStack};
-ghost use Rattle.machine.specs.Inner.Sides.{side_of};
+ghost use Rattle.machine.specs.Inner.Sides.{pick_side};
 
 use crate::{Registers, Stepped, values};
 
@@ -23,7 +23,7 @@ pub enum Side {
 impl Side {
     // Whether a value lies there.
     fn moves(self, before: i32, v: i32) -> bool
-        ensures { result ≡ moves (side_of self) before v }
+        ensures { result ≡ moves (pick_side self) before v }
     {
         match self {
             Side::Changing => v != before,
@@ -34,7 +34,7 @@ impl Side {
 
     // The refusal of one that does not.
     fn stays(self) -> u8
-        ensures { result ≡ stays (side_of self) }
+        ensures { result ≡ stays (pick_side self) }
     {
         match self {
             Side::Changing => limits::EQUAL_TO_PREVIOUS,
@@ -123,7 +123,7 @@ pub fn pick(
     requires one_each { OneEach low.now high.now prev.now cur.old }
     ensures cur_after { (ns : Setting) → RangesIn ns.ranges low.now high.now
         → step_outcome result vals.now cur.new
-        ≡ perform ns prev.now (picking (side_of side) id) m.picked (held_of vals.now m.held) cur.old }
+        ≡ perform ns prev.now (picking (pick_side side) id) m.picked (held_of vals.now m.held) cur.old }
     ensures few { Few result }
 {
     let n = m.held;

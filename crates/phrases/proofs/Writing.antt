@@ -8,7 +8,7 @@ use Rattle.lexer.specs.declared.Place.{Place}
 use Rattle.lexer.specs.Results.{Step}
 use Rattle.std.specs.Prelude.{Ok, Err}
 use Rattle.limits.specs.declared.Refusal.{Refusal}
-use Rattle.limits.specs.Refusals.{number_of, place_of}
+use Rattle.limits.specs.Refusals.{refusal_number, refusal_place}
 use Rattle.grammar.specs.Parsed.{Parsed, accepted, refused, and_then}
 use Rattle.grammar.proofs.Combine.{apart, same_value, same_end}
 use Rattle.phrases.specs.Inner.Steps.{parsed_of, nothing, written, answered, Writes}
@@ -35,10 +35,10 @@ module _ {A B : Type 0} {bytes : A → List ℕ} {told : Place → B} {tells : A
             record { tree = a; is = i; ended = ap (λ (q : ℕ × B). q.0) (same_value f); tells_it = ap (λ (q : ℕ × B). q.1) (same_value f); wrote = c.wrote a x.at i }
         go (refused k q) e f = apart f
 
-    pub refused_part : {e : Refusal} → r ≡ Err e → p ≡ refused (number_of e) (place_of e)
+    pub refused_part : {e : Refusal} → r ≡ Err e → p ≡ refused (refusal_number e) (refusal_place e)
     refused_part {e} d = go p refl (sym (ap (parsed_of (written told)) d) ∙ c.answer)
       where
-        go : (w : Parsed A) → p ≡ w → ◌≡◌ {A = Parsed (ℕ × B)} (refused (number_of e) (place_of e)) (and_then w (answered bytes tells to)) → p ≡ refused (number_of e) (place_of e)
+        go : (w : Parsed A) → p ≡ w → ◌≡◌ {A = Parsed (ℕ × B)} (refused (refusal_number e) (refusal_place e)) (and_then w (answered bytes tells to)) → p ≡ refused (refusal_number e) (refusal_place e)
         go (accepted a m) g f = apart (sym f)
         go (refused l m) g f = g ∙ same_refusal (sym f)
 
@@ -48,15 +48,15 @@ module _ {A B : Type 0} {bytes : A → List ℕ} {told : Place → B} {tells : A
     wrote = λ a m e. g.wrote ∙ ap (λ (b : A). sets before to (bytes b)) (same_value (sym g.is ∙ e));
   }
 
-  pub refuses : {r : Step} {e : Refusal} → r ≡ Err e → p ≡ refused (number_of e) (place_of e) → Writes bytes told tells p to before after r
+  pub refuses : {r : Step} {e : Refusal} → r ≡ Err e → p ≡ refused (refusal_number e) (refusal_place e) → Writes bytes told tells p to before after r
   refuses d e = record { answer = rw (d, e); wrote = λ a m f. apart (sym f ∙ e) }
 
   -- a refusal of the fixed tokens at hand, passed on
-  pub not_expected : {r : Step} {w : Parsed (Unit {0})} {e : Refusal} → parsed_of nothing r ≡ w → r ≡ Err e → (w ≡ refused (number_of e) (place_of e) → p ≡ refused (number_of e) (place_of e)) → Writes bytes told tells p to before after r
+  pub not_expected : {r : Step} {w : Parsed (Unit {0})} {e : Refusal} → parsed_of nothing r ≡ w → r ≡ Err e → (w ≡ refused (refusal_number e) (refusal_place e) → p ≡ refused (refusal_number e) (refusal_place e)) → Writes bytes told tells p to before after r
   not_expected i f g = refuses f (g (sym i ∙ ap (parsed_of nothing) f))
 
 -- a refusal of a part, passed on
-pub not_part : {A B C D : Type 0} {bytes : A → List ℕ} {told : Place → B} {tells : A → B} {p : Parsed A} {to : ℕ} {before after : List ℕ} {code : C → List ℕ} {said : Place → D} {says : C → D} {w : Parsed C} {u : ℕ} {b a : List ℕ} {r : Step} {e : Refusal} → Writes code said says w u b a r → r ≡ Err e → (w ≡ refused (number_of e) (place_of e) → p ≡ refused (number_of e) (place_of e)) → Writes bytes told tells p to before after r
+pub not_part : {A B C D : Type 0} {bytes : A → List ℕ} {told : Place → B} {tells : A → B} {p : Parsed A} {to : ℕ} {before after : List ℕ} {code : C → List ℕ} {said : Place → D} {says : C → D} {w : Parsed C} {u : ℕ} {b a : List ℕ} {r : Step} {e : Refusal} → Writes code said says w u b a r → r ≡ Err e → (w ≡ refused (refusal_number e) (refusal_place e) → p ≡ refused (refusal_number e) (refusal_place e)) → Writes bytes told tells p to before after r
 not_part c d g = refuses d (g (refused_part c d))
 
 -- fixed tokens that were found

@@ -20,7 +20,7 @@ use Rattle.correctness.specs.TraceCorrect.{verdict_of, reply_of}
 use Rattle.leb128.proofs.Stores.{sets_clip, sets_append}
 use Rattle.std.specs.Prelude.{Ok, Err}
 use Rattle.limits.specs.declared.Refusal.{Refusal}
-use Rattle.limits.specs.Refusals.{number_of, place_of}
+use Rattle.limits.specs.Refusals.{refusal_number, refusal_place}
 use Rattle.replay.specs.Replay.{answer_number, steps_of, replay_rows}
 use Rattle.replay.specs.Results.{lent, after_replay}
 use Rattle.replay.specs.Inner.Records.{Records, records, added_by, record_scan, scan_rows}
@@ -75,10 +75,10 @@ start_keeps image s number place = go (check_of image)
     go (accepted u) e = by (eqb (length s) (state_length (shape_in image))) e
 
 module _ (image buffer : List ℕ) (rows : List (List ℤ)) (s s₁ : State) (numbers steps : List ℕ) (trace : List ℤ) where
-  pub replay_refused : (n : ℕ) (e : Refusal) → ◌≡◌ {A = AfterStart} (record { answer = refused (number_of e) (place_of e); state = s₁ }) (start_of image s)
+  pub replay_refused : (n : ℕ) (e : Refusal) → ◌≡◌ {A = AfterStart} (record { answer = refused (refusal_number e) (refusal_place e); state = s₁ }) (start_of image s)
       → after_replay (Err e) (lent buffer s₁ numbers steps trace) ≡ replay_rows (start_of image s) n image rows (lent buffer s numbers steps trace)
   replay_refused n x e =
-      let k : s₁ ≡ s = ap {A = AfterStart} (λ r. r.state) e ∙ start_keeps image s (number_of x) (place_of x) (sym (ap {A = AfterStart} (λ r. r.answer) e)) in
+      let k : s₁ ≡ s = ap {A = AfterStart} (λ r. r.state) e ∙ start_keeps image s (refusal_number x) (refusal_place x) (sym (ap {A = AfterStart} (λ r. r.answer) e)) in
       rw (← e, k)
 
   pub replay_done : (n at place : ℕ) (s₂ : State) (numbers₂ steps₂ : List ℕ) (trace₁ trace₂ : List ℤ) → ◌≡◌ {A = AfterStart} (record { answer = accepted tt; state = s₁ }) (start_of image s) → trace₁ ≡ sets trace 0 s₁

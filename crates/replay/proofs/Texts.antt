@@ -13,16 +13,16 @@ use Rattle.translate.proofs.Kept.{image_inside}
 use Rattle.correctness.proofs.Demand2.{demand_2}
 use Rattle.std.specs.Prelude.{Result, Err}
 use Rattle.limits.specs.declared.Refusal.{Refusal}
-use Rattle.limits.specs.Refusals.{number_of, place_of}
+use Rattle.limits.specs.Refusals.{refusal_number, refusal_place}
 use Rattle.replay.specs.Replay.{rows_of, replay_rows, replay_of}
 use Rattle.replay.specs.Results.{lent, after_replay}
 
 module _ (text image left : List ℕ) (cells : List ℤ) (lengths : List ℕ) (s : State) (numbers steps : List ℕ) (trace : List ℤ) where
-  pub text_refused : (e : Refusal) → record { answer = refused (number_of e) (place_of e); buffer = left } ≡ translation_of text image
+  pub text_refused : (e : Refusal) → record { answer = refused (refusal_number e) (refusal_place e); buffer = left } ≡ translation_of text image
       → after_replay (Err e) (lent left s numbers steps trace) ≡ replay_of text cells lengths (lent image s numbers steps trace)
   unfolding replay_of
   text_refused x e =
-      let k : left ≡ image = ap {A = AfterTranslation} (λ t. t.buffer) e ∙ demand_2.untouched text image (number_of x) (place_of x) (sym (ap {A = AfterTranslation} (λ t. t.answer) e)) in
+      let k : left ≡ image = ap {A = AfterTranslation} (λ t. t.buffer) e ∙ demand_2.untouched text image (refusal_number x) (refusal_place x) (sym (ap {A = AfterTranslation} (λ t. t.answer) e)) in
       rw (← e, k)
 
   pub text_replayed : (n : ℕ) (r : Result ℕ Refusal) (s₁ : State) (numbers₁ steps₁ : List ℕ) (trace₁ : List ℤ) → record { answer = accepted n; buffer = left } ≡ translation_of text image

@@ -2,7 +2,7 @@
 use Rattle.std.specs.Prelude.{ℕ, ◌≤◌, List, ℤ, Result, Ok, Err}
 use Rattle.limits.specs.Limits.{image_limit}
 use Rattle.limits.specs.declared.Refusal.{Refusal}
-use Rattle.limits.specs.Refusals.{place_of, stands_for}
+use Rattle.limits.specs.Refusals.{refusal_place, stands_for}
 use Rattle.semantics.specs.Formula.{State}
 use Rattle.replay.specs.Replay.{Lent, AfterReplay, ShownIf}
 
@@ -20,4 +20,4 @@ ShownBy r = ShownIf (stands_for r)
 -- how large these numbers are, which the C function packs into 64 bits
 abbrev pub ReplayedWithin : Result ℕ Refusal → Type 0
 ReplayedWithin (Ok n) = n ≤ image_limit
-ReplayedWithin (Err e) = place_of e ≤ image_limit
+ReplayedWithin (Err e) = refusal_place e ≤ image_limit

@@ -2,7 +2,7 @@
 #![tactic(auto)]
 
 ghost use Rattle.std.specs.Prelude.{◌≡◌, ◌^◌, ◌<◌, IfErr, MatchResult};
-ghost use Rattle.limits.specs.Refusals.{number_of, place_of, stands_for};
+ghost use Rattle.limits.specs.Refusals.{refusal_number, refusal_place, stands_for};
 ghost use Rattle.bytecode.specs.Check.{check_of};
 ghost use Rattle.scan.specs.Services.{start_of, scan_of};
 ghost use Rattle.replay.specs.Replay.{replay_of, ShownIf};
@@ -23,15 +23,15 @@ ghost use Rattle.watch.specs.Services.{watch_of};
 use limits::Refusal;
 
 fn pack_refusal(e: Refusal) -> u64
-    requires { place_of e < 2 ^ 32 }
-    ensures { result ≡ packed (number_of e) (place_of e) 0 }
+    requires { refusal_place e < 2 ^ 32 }
+    ensures { result ≡ packed (refusal_number e) (refusal_place e) 0 }
 {
     paused::pack(e.number(), e.place(), 0)
 }
 
 // The answer of a service that says no more than whether it refuses.
 fn pack_check(r: Result<(), Refusal>) -> u64
-    requires { IfErr r (λ e. place_of e < 2 ^ 32) }
+    requires { IfErr r (λ e. refusal_place e < 2 ^ 32) }
     ensures { result ≡ packed_check (stands_for r) }
 {
     match r {
@@ -42,7 +42,7 @@ fn pack_check(r: Result<(), Refusal>) -> u64
 
 // The answer of a service that tells a length or a count.
 fn pack_count(r: Result<usize, Refusal>) -> u64
-    requires { MatchResult r (λ n. n < 2 ^ 24) (λ e. place_of e < 2 ^ 32) }
+    requires { MatchResult r (λ n. n < 2 ^ 24) (λ e. refusal_place e < 2 ^ 32) }
     ensures { result ≡ packed_translation (stands_for r) }
 {
     match r {

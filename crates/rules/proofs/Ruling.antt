@@ -31,7 +31,7 @@ use Rattle.lexer.specs.Results.{Step}
 use Rattle.std.specs.Prelude.{Ok, Err}
 use Rattle.limits.specs.declared.Refusal.{Refusal}
 use Rattle.limits.specs.declared.Refusal.TheVariants.{NoToken}
-use Rattle.limits.specs.Refusals.{number_of, place_of}
+use Rattle.limits.specs.Refusals.{refusal_number, refusal_place}
 use Rattle.phrases.specs.Inner.Steps.{number_told, Writes}
 use Rattle.phrases.proofs.Writing.{Got, writes, refuses}
 use Rattle.cases.proofs.Ways.{then_bytes}
@@ -122,7 +122,7 @@ module _ {ts : List Timer} {text starts ends : List ℕ} {count known₀ at to :
   come : rules_from 65 ts (scope_of text starts ends (naming count known₀)) [] at ≡ rules_from (suc (64 - done)) ts sc x.rules a
   come = let e : 65 - done ≡ suc (64 - done) = omega (arith, x.fuel, d.few) in x.same ∙ ap (λ (f : ℕ). rules_from f ts sc x.rules a) e
 
-  pub ruling_fault : {out' : List ℕ} {r : Step} {e : Refusal} → r ≡ Err e → (token_at text a ≡ fault (place_of e)) × (e ≡ NoToken (place_of e)) → Answer out' r
+  pub ruling_fault : {out' : List ℕ} {r : Step} {e : Refusal} → r ≡ Err e → (token_at text a ≡ fault (refusal_place e)) × (e ≡ NoToken (refusal_place e)) → Answer out' r
   ruling_fault g f = refuses (g ∙ ap Err f.1) (refused_now (come ∙ rules_fault (64 - done) ts sc x.rules a f.0)).looked
 
   module _ {k s n : ℕ} (f : Found text a k s n) where
@@ -141,7 +141,7 @@ module _ {ts : List Timer} {text starts ends : List ℕ} {count known₀ at to :
     ruling_room = record { short = x.room.short; within = f.lies.within x.room.within; room = omega (arith, x.room.room, f.lies.after, f.lies.ordered) }
 
     module _ (i : is (kind_of k) name ≡ true) where
-      pub ruling_refused : {out' : List ℕ} {r : Step} {e : Refusal} → r ≡ Err e → rule_at ts sc s n ≡ refused (number_of e) (place_of e) → Answer out' r
+      pub ruling_refused : {out' : List ℕ} {r : Step} {e : Refusal} → r ≡ Err e → rule_at ts sc s n ≡ refused (refusal_number e) (refusal_place e) → Answer out' r
       ruling_refused g e = refuses g (refused_now (come ∙ rules_refused (64 - done) ts sc x.rules a f.read i e)).looked
 
       module _ {out' : List ℕ} {o : Place} (g : Got code_of_rule number_told target (rule_at ts sc s n) t out out' o) where

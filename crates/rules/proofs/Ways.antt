@@ -8,7 +8,7 @@ use native.Mathlib.Omega.{arith}
 use lib.ListN.{length, get_or, length-append}
 use lib.Seq.{sets}
 use Rattle.limits.specs.Limits.{case_limit, wrong_name, wrong_rule, too_many}
-use Rattle.limits.specs.Refusals.{number_of, place_of}
+use Rattle.limits.specs.Refusals.{refusal_number, refusal_place}
 use Rattle.limits.specs.declared.Refusal.{Refusal}
 use Rattle.limits.specs.declared.Refusal.TheVariants.{NoToken}
 use Rattle.leb128.specs.Numbers.{number}
@@ -197,7 +197,7 @@ module _ (sc : Scope) (w : List ℕ) (v at : ℕ) where
   formula_unopened e = rw e
 
   module _ {n : ℕ} (e : phrase sc.text rule_opening at ≡ accepted tt n) where
-    pub formula_fault : {e : Refusal} → (token_at sc.text n ≡ fault (place_of e)) × (e ≡ NoToken (place_of e)) → formula_at sc w v at ≡ refused (number_of e) (place_of e)
+    pub formula_fault : {e : Refusal} → (token_at sc.text n ≡ fault (refusal_place e)) × (e ≡ NoToken (refusal_place e)) → formula_at sc w v at ≡ refused (refusal_number e) (refusal_place e)
     unfolding formula_at
     formula_fault f = rw (e, f.0, f.1)
 
@@ -213,7 +213,7 @@ module _ (sc : Scope) (w : List ℕ) (v at : ℕ) where
 -- ---- a pair, or one of these
 
 module _ (sc : Scope) (w : List ℕ) (v at : ℕ) where
-  pub formulas_fault : {e : Refusal} → (token_at sc.text at ≡ fault (place_of e)) × (e ≡ NoToken (place_of e)) → formulas sc w v at ≡ refused (number_of e) (place_of e)
+  pub formulas_fault : {e : Refusal} → (token_at sc.text at ≡ fault (refusal_place e)) × (e ≡ NoToken (refusal_place e)) → formulas sc w v at ≡ refused (refusal_number e) (refusal_place e)
   unfolding formulas
   formulas_fault f = rw (f.0, f.1)
 

@@ -1,7 +1,7 @@
 -- What the answers of start and scan stand for: document 01's number, place and steps. Assumes nothing.
 use Rattle.std.specs.Prelude.{ℕ, ◌≤◌, Result, Ok, Err}
 use Rattle.limits.specs.Answer.{Answer, accepted, refused}
-use Rattle.limits.specs.Refusals.{place_of, stands_for}
+use Rattle.limits.specs.Refusals.{refusal_place, stands_for}
 use Rattle.limits.specs.declared.Refusal.{Refusal}
 use Rattle.semantics.specs.Formula.{State}
 use Rattle.scan.specs.declared.Scanned.{Scanned}
@@ -28,7 +28,7 @@ after_scan r left = record { answer = scan_answer r; steps = scan_steps r; state
 
 abbrev pub StartedWithin : ℕ → Result (Unit {0}) Refusal → Type 0
 StartedWithin most (Ok _) = Unit {0}
-StartedWithin most (Err e) = place_of e ≤ most
+StartedWithin most (Err e) = refusal_place e ≤ most
 
 abbrev pub ScannedWithin : ℕ → Scanned → Type 0
 ScannedWithin most (R.Done n) = n ≤ most

@@ -5,7 +5,7 @@ ghost use Rattle.std.specs.Prelude.{◌≡◌, true, false, ◌≤◌, pos, leng
 ghost use Rattle.std.proofs.lemmas.List.Edits.{sets};
 ghost use Rattle.limits.specs.Limits.{image_limit, name_limit, state_limit, stack_limit};
 ghost use Rattle.limits.specs.Answer.{accepted};
-ghost use Rattle.limits.specs.Refusals.{number_of, place_of};
+ghost use Rattle.limits.specs.Refusals.{refusal_number, refusal_place};
 ghost use Rattle.semantics.specs.Shape.{has_timer, all_within, Setting};
 ghost use Rattle.bytecode.specs.Check.{check_of};
 ghost use Rattle.bytecode.specs.Parts.{header_of, limits_of};
@@ -31,7 +31,7 @@ pub enum Scanned {
 
 // A refusal before the first step.
 fn refused(e: Refusal) -> Scanned
-    ensures { result ≡ Scanned.Refused (number_of e) (place_of e) 0 }
+    ensures { result ≡ Scanned.Refused (refusal_number e) (refusal_place e) 0 }
 {
     Scanned::Refused(e.number(), e.place(), 0)
 }
@@ -162,9 +162,9 @@ fn scan_other(image: &[u8], state: &mut [i32], row: &[i32]) -> Scanned
 
 // What the check of the image answers; where it is sound and has no timers, this refusal.
 fn after_check(image: &[u8], state: &mut [i32], row: &[i32], first: Refusal) -> Scanned
-    requires { place_of first ≤ image_limit }
+    requires { refusal_place first ≤ image_limit }
     ensures state_after { (check_of image.now ≡ accepted tt → has_timer (limits_of image.now) ≡ false
-        → refused_scan (number_of first) (place_of first) 0 state.old ≡ scan_of image.now state.old row.now)
+        → refused_scan (refusal_number first) (refusal_place first) 0 state.old ≡ scan_of image.now state.old row.now)
         → after_scan result state.new ≡ scan_of image.now state.old row.now }
     ensures scanned_within { ScannedWithin image_limit result }
 {

@@ -3,7 +3,7 @@ use Rattle.std.specs.Prelude.{ℕ, ◌^◌, ◌≤◌, ◌<◌, ◌≡◌, List,
 use Rattle.std.proofs.lemmas.List.Edits.{sets}
 use Rattle.limits.specs.Limits.{name_limit, image_limit}
 use Rattle.limits.specs.Answer.{accepted, refused}
-use Rattle.limits.specs.Refusals.{number_of, place_of}
+use Rattle.limits.specs.Refusals.{refusal_number, refusal_place}
 use Rattle.limits.specs.declared.Refusal.{Refusal}
 use Rattle.arith.specs.Inner.Flags.{flags_of}
 use Rattle.semantics.specs.Shape.{timers_of, has_timer, cells, state_length}
@@ -33,7 +33,7 @@ pub record Measures (image : List ℕ) (low₀ high₀ low high : List ℤ) (m :
 
 abbrev pub ShapedAs : List ℕ → List ℤ → List ℤ → List ℤ → List ℤ → Result Measured Refusal → Type 0
 ShapedAs image low₀ high₀ low high (Ok m) = Measures image low₀ high₀ low high m
-ShapedAs image low₀ high₀ low high (Err e) = (check_of image ≡ refused (number_of e) (place_of e)) × (place_of e ≤ image_limit)
+ShapedAs image low₀ high₀ low high (Err e) = (check_of image ≡ refused (refusal_number e) (refusal_place e)) × (refusal_place e ≤ image_limit)
 
 pub record ShapedBy (image : List ℕ) (low₀ high₀ low high : List ℤ) (r : Result Measured Refusal) : Type 0 where
   pub so : ShapedAs image low₀ high₀ low high r

@@ -19,7 +19,7 @@ use Rattle.lexer.specs.declared.Place.{Place}
 use Rattle.lexer.specs.Results.{Step}
 use Rattle.std.specs.Prelude.{Ok, Err}
 use Rattle.limits.specs.declared.Refusal.{Refusal}
-use Rattle.limits.specs.Refusals.{number_of, place_of}
+use Rattle.limits.specs.Refusals.{refusal_number, refusal_place}
 use Rattle.lexer.proofs.Laws.{cond_prop, Moved, token_moved}
 use Rattle.semantics.specs.Program.{Name, Program, Timer}
 use Rattle.bytecode.specs.Instructions.{encode_all}
@@ -81,7 +81,7 @@ module _ (text buffer : List ℕ) where
   abbrev pub Served : Result ℕ Refusal → List ℕ → Type 0
   Served r left = (after_writing r left ≡ structured_text_of text buffer) × WrittenWithin r
 
-  pub text_refused : (x : Refusal) → parse text ≡ refused (number_of x) (place_of x) → Served (Err x) buffer
+  pub text_refused : (x : Refusal) → parse text ≡ refused (refusal_number x) (refusal_place x) → Served (Err x) buffer
   unfolding structured_text_of program_of
   text_refused x e = (rw e, (subst (Placed text_limit) e (parse_limited text)).1)
 

@@ -2,7 +2,7 @@
 use Rattle.std.specs.Prelude.{ℕ, ◌≤◌, List, Result, Ok, Err}
 use Rattle.limits.specs.Limits.{text_limit}
 use Rattle.limits.specs.declared.Refusal.{Refusal}
-use Rattle.limits.specs.Refusals.{place_of, stands_for}
+use Rattle.limits.specs.Refusals.{refusal_place, stands_for}
 use Rattle.translate.specs.Services.{AfterTranslation}
 use Rattle.structured_text.specs.Room.{st_room}
 
@@ -13,4 +13,4 @@ after_writing r left = record { answer = stands_for r; buffer = left }
 -- how large these numbers are, which the C functions pack into 64 bits
 abbrev pub WrittenWithin : Result ℕ Refusal → Type 0
 WrittenWithin (Ok n) = n ≤ st_room
-WrittenWithin (Err e) = place_of e ≤ text_limit
+WrittenWithin (Err e) = refusal_place e ≤ text_limit

@@ -34,7 +34,7 @@ use Rattle.lexer.specs.declared.Place.{Place}
 use Rattle.lexer.specs.Results.{Step}
 use Rattle.std.specs.Prelude.{Ok, Err}
 use Rattle.limits.specs.declared.Refusal.{Refusal}
-use Rattle.limits.specs.Refusals.{number_of, place_of}
+use Rattle.limits.specs.Refusals.{refusal_number, refusal_place}
 use Rattle.grammar.specs.Expressions.{Scope}
 use Rattle.grammar.proofs.Combine.{apart, same_value}
 use Rattle.grammar.proofs.Standing.{normally, spells_in}
@@ -114,17 +114,17 @@ rules_in text d a y b few e =
 -- ---- the answer and the bytes of the whole
 
 module _ (text before last starts ends : List ℕ) {r : Step} where
-  descends_refused : (e : Refusal) → r ≡ Err e → program text ≡ refused (number_of e) (place_of e) → Descends text (program text) before last starts ends r
+  descends_refused : (e : Refusal) → r ≡ Err e → program text ≡ refused (refusal_number e) (refusal_place e) → Descends text (program text) before last starts ends r
   descends_refused e d h = record { writes = refuses d h; named = λ q n i. never q n _ _ (sym i ∙ h); watched = λ q n x i j. never q n _ _ (sym i ∙ h); timed = λ q n x i j. never q n _ _ (sym i ∙ h) }
 
-  pub no_heading : (e : Refusal) → r ≡ Err e → heading_of text ≡ refused (number_of e) (place_of e) → Descends text (program text) before last starts ends r
+  pub no_heading : (e : Refusal) → r ≡ Err e → heading_of text ≡ refused (refusal_number e) (refusal_place e) → Descends text (program text) before last starts ends r
   no_heading e d h = descends_refused e d (program_heading text ∙ rw h)
 
   module _ (x : Declarations) (a : ℕ) (e : heading_of text ≡ accepted x a) where
-    pub no_rules : (k : Refusal) → r ≡ Err k → Refuses text (rules_from 65 x.timers (scope_after text x) [] a) (number_of k) (place_of k) → Descends text (program text) before last starts ends r
+    pub no_rules : (k : Refusal) → r ≡ Err k → Refuses text (rules_from 65 x.timers (scope_after text x) [] a) (refusal_number k) (refusal_place k) → Descends text (program text) before last starts ends r
     no_rules k d f = descends_refused k d (program_heading text ∙ rw e (behind_refused text _ (closed_fault text x) (rules_from 65 x.timers (scope_after text x) [] a) f))
 
-    pub no_tail : (y : Ruled) (b : ℕ) (k : Refusal) → rules_from 65 x.timers (scope_after text x) [] a ≡ accepted y b → r ≡ Err k → tail_from (scope_of_watches text x) y.known b ≡ refused (number_of k) (place_of k) → Descends text (program text) before last starts ends r
+    pub no_tail : (y : Ruled) (b : ℕ) (k : Refusal) → rules_from 65 x.timers (scope_after text x) [] a ≡ accepted y b → r ≡ Err k → tail_from (scope_of_watches text x) y.known b ≡ refused (refusal_number k) (refusal_place k) → Descends text (program text) before last starts ends r
     no_tail y b k f d g = descends_refused k d (program_heading text ∙ rw (e, f, closed_tail text x y b, g))
 
 -- the bytes of an image whose counts have one byte each

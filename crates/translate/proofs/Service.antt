@@ -25,7 +25,7 @@ use Rattle.lexer.specs.Results.{Step}
 use Rattle.std.specs.Prelude.{Result, Ok, Err}
 use Rattle.limits.specs.declared.Refusal.{Refusal}
 use Rattle.limits.specs.declared.Refusal.TheVariants.{TooLong, BufferTooShort}
-use Rattle.limits.specs.Refusals.{number_of, place_of, stands_for}
+use Rattle.limits.specs.Refusals.{refusal_number, refusal_place, stands_for}
 use Rattle.phrases.proofs.Writing.{got, refused_part}
 use Rattle.translate.specs.declared.Analysis.{Analysis}
 use Rattle.translate.specs.Services.{AfterTranslation, translated, translation_of}
@@ -45,7 +45,7 @@ two_counts : (q : Program) → q.inputs ≤ length q.names → length q.names �
 two_counts q h i = rw (image_bytes q (omega arith) (omega arith)) (sets_past (q.inputs ∷ (length q.names - q.inputs) ∷ []) 2 (header q.names ++ bytes_r q.timers q.rules) (omega arith))
 
 module _ (text last starts ends : List ℕ) {r : Step} (short : length text ≤ text_limit) (d : Descends text (program text) (0 ∷ 0 ∷ []) last starts ends r) where
-  pub analyses_refused : (e : Refusal) → r ≡ Err e → parse text ≡ refused (number_of e) (place_of e)
+  pub analyses_refused : (e : Refusal) → r ≡ Err e → parse text ≡ refused (refusal_number e) (refusal_place e)
   analyses_refused e h = short_parse text short ∙ refused_part d.writes h
 
   module _ (x : Place) (e : r ≡ Ok x) {i v : ℕ} (ei : i ≡ get_or last 0 0) (ev : v ≡ get_or last 1 0) (hs : name_limit ≤ length starts) (he : name_limit ≤ length ends) where
@@ -106,13 +106,13 @@ module _ {text : List ℕ} {p : Parsed Program} {starts ends : List ℕ} {r : Re
   pub analysed_text : {x : Analysis} → r ≡ Ok x → AnalysedText text p starts ends x.length x.inputs x.names x.timers x.rules_end x.watches
   analysed_text e = subst (AnalysedAs text p starts ends) e a.so
 
-  pub analysed_refused : {e : Refusal} → r ≡ Err e → p ≡ refused (number_of e) (place_of e)
+  pub analysed_refused : {e : Refusal} → r ≡ Err e → p ≡ refused (refusal_number e) (refusal_place e)
   analysed_refused h = subst (AnalysedAs text p starts ends) h a.so
 
 -- ---- the service's definition
 
 module _ (text buffer : List ℕ) where
-  pub translation_refused : (e : Refusal) → parse text ≡ refused (number_of e) (place_of e) → after_translation (Err e) buffer ≡ translation_of text buffer
+  pub translation_refused : (e : Refusal) → parse text ≡ refused (refusal_number e) (refusal_place e) → after_translation (Err e) buffer ≡ translation_of text buffer
   unfolding translation_of program_of
   translation_refused e h = rw h
 

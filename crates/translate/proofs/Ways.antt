@@ -26,7 +26,7 @@ use Rattle.lexer.specs.declared.Place.{Place}
 use Rattle.lexer.specs.Results.{Step}
 use Rattle.std.specs.Prelude.{Ok, Err}
 use Rattle.limits.specs.declared.Refusal.{Refusal}
-use Rattle.limits.specs.Refusals.{number_of, place_of}
+use Rattle.limits.specs.Refusals.{refusal_number, refusal_place}
 use Rattle.phrases.proofs.Writing.{got, refused_part}
 use Rattle.rules.specs.Inner.Timers.{table_timers}
 use Rattle.declarations.specs.Inner.Timers.{TimersStand, TimersHeld, timers_header, DeclaresTimers}
@@ -192,7 +192,7 @@ module _ (text before mid after e0 s1 e1 s2 e2 : List ℕ) (a t c b u m : ℕ) (
     same_parse : timers_from 65 text c m (untimed y.all) b ≡ timers_from 65 text (length x.all) (length y.all) (untimed y.all) b
     same_parse = rw (x.counted, y.counted)
 
-    pub heading_refused : {e : Refusal} → r ≡ Err e → heading_of text ≡ refused (number_of e) (place_of e)
+    pub heading_refused : {e : Refusal} → r ≡ Err e → heading_of text ≡ refused (refusal_number e) (refusal_place e)
     heading_refused g = timers_refused text x.all a x.read y.all b y.read _ _ (sym same_parse ∙ refused_part d.writes g)
 
     pub heading_read : {p : Place} → r ≡ Ok p → HeadingRead text before last s3 e3 watched limits p.at p.to c p.number m
@@ -222,11 +222,11 @@ module _ (text before mid after e0 s1 e1 s2 e2 : List ℕ) (a t c b u m : ℕ) (
 
 -- ---- the answer
 
-pub refused_heading : (text before after' starts ends watched limits : List ℕ) {r : Step} {e : Refusal} → r ≡ Err e → heading_of text ≡ refused (number_of e) (place_of e) → ReadsHeading text before after' starts ends watched limits r
+pub refused_heading : (text before after' starts ends watched limits : List ℕ) {r : Step} {e : Refusal} → r ≡ Err e → heading_of text ≡ refused (refusal_number e) (refusal_place e) → ReadsHeading text before after' starts ends watched limits r
 refused_heading text before after' starts ends watched limits g f = record { refuses = λ k h. f ∙ passed (sym g ∙ h); reads = λ x h. step_refused (sym g ∙ h) }
   where
-    passed : {k l : Refusal} → ◌≡◌ {A = Step} (Err k) (Err l) → ◌≡◌ {A = Parsed Declarations} (refused (number_of k) (place_of k)) (refused (number_of l) (place_of l))
-    passed {k} {l} h = let i : k ≡ l = cc in ap (λ (x : Refusal). refused (number_of x) (place_of x)) i
+    passed : {k l : Refusal} → ◌≡◌ {A = Step} (Err k) (Err l) → ◌≡◌ {A = Parsed Declarations} (refused (refusal_number k) (refusal_place k)) (refused (refusal_number l) (refusal_place l))
+    passed {k} {l} h = let i : k ≡ l = cc in ap (λ (x : Refusal). refused (refusal_number x) (refusal_place x)) i
 
 pub done_heading : (text before after' starts ends watched limits : List ℕ) {r : Step} {x : Place} → r ≡ Ok x → HeadingRead text before after' starts ends watched limits x.at x.to x.start x.number x.end → ReadsHeading text before after' starts ends watched limits r
 done_heading text before after' starts ends watched limits {x = x} g d = record {

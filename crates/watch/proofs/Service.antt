@@ -24,7 +24,7 @@ use Rattle.translate.specs.Inner.Descent.{AnalysedText}
 use Rattle.std.specs.Prelude.{Ok, Err}
 use Rattle.limits.specs.declared.Refusal.{Refusal}
 use Rattle.limits.specs.declared.Refusal.TheVariants.{WrongLength}
-use Rattle.limits.specs.Refusals.{number_of, place_of}
+use Rattle.limits.specs.Refusals.{refusal_number, refusal_place}
 use Rattle.watch.specs.Services.{reported, report_of, watched_states, watch_of}
 use Rattle.watch.specs.Results.{after_watch, WatchedWithin}
 use Rattle.watch.specs.Inner.Reports.{CountedWatches}
@@ -50,7 +50,7 @@ module _ {text starts ends : List ℕ} {size inputs names timers at count : ℕ}
 -- ---- the answers
 
 module _ (text : List ℕ) (cells report : List ℤ) where
-  pub watch_refused : (e : Refusal) → parse text ≡ refused (number_of e) (place_of e) → (after_watch (Err e) report ≡ watch_of text cells report) × WatchedWithin (Err e)
+  pub watch_refused : (e : Refusal) → parse text ≡ refused (refusal_number e) (refusal_place e) → (after_watch (Err e) report ≡ watch_of text cells report) × WatchedWithin (Err e)
   unfolding watch_of program_of
   watch_refused x e = (rw e, (subst (Placed text_limit) e (parse_limited text)).1)
 

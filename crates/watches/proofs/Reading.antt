@@ -15,7 +15,7 @@ use Rattle.lexer.specs.Results.{Step}
 use Rattle.std.specs.Prelude.{Ok, Err}
 use Rattle.limits.specs.declared.Refusal.{Refusal}
 use Rattle.limits.specs.declared.Refusal.TheVariants.{NoToken, TooManyWatches}
-use Rattle.limits.specs.Refusals.{number_of, place_of}
+use Rattle.limits.specs.Refusals.{refusal_number, refusal_place}
 use Rattle.lexer.proofs.KindNumbers.{kind_number_lem}
 use Rattle.semantics.specs.Program.{Watch}
 use Rattle.grammar.specs.Parsed.{accepted, refused}
@@ -104,14 +104,14 @@ module _ {sc : Scope} {at a k s n count : ℕ} (x : Reading sc at a k s n count)
       some_left : watches_from (watch_limit - count) sc x.done a ≡ watches_from (suc (watch_limit - (count + 1))) sc x.done a
       some_left = let e : watch_limit - count ≡ suc (watch_limit - (count + 1)) = omega (arith, x.few) in ap (λ (l : ℕ). watches_from l sc x.done a) e
 
-      pub reading_refused : {r : Step} {e : Refusal} → r ≡ Err e → watch_at sc n ≡ refused (number_of e) (place_of e) → Answer r
+      pub reading_refused : {r : Step} {e : Refusal} → r ≡ Err e → watch_at sc n ≡ refused (refusal_number e) (refusal_place e) → Answer r
       reading_refused d e = refuses d (refused_now (x.same ∙ (some_left ∙ watches_refused sc x.done a x.stands.read (told x.stands watch_word i) (watch_limit - (count + 1)) e))).looked
 
       module _ {w : Watch} {m : ℕ} (e : watch_at sc n ≡ accepted w m) where
         more : watches_from watch_limit sc [] at ≡ watches_from (watch_limit - (count + 1)) sc (x.done ++ (w ∷ [])) m
         more = x.same ∙ (some_left ∙ watches_more sc x.done a x.stands.read (told x.stands watch_word i) (watch_limit - (count + 1)) e)
 
-        pub reading_fault : {r : Step} {e : Refusal} → r ≡ Err e → (token_at sc.text m ≡ fault (place_of e)) × (e ≡ NoToken (place_of e)) → Answer r
+        pub reading_fault : {r : Step} {e : Refusal} → r ≡ Err e → (token_at sc.text m ≡ fault (refusal_place e)) × (e ≡ NoToken (refusal_place e)) → Answer r
         reading_fault d f = refuses (d ∙ ap Err f.1) (refused_now (more ∙ watches_fault sc (x.done ++ (w ∷ [])) m (watch_limit - (count + 1)) f.0)).looked
 
         pub reading_more : length sc.names ≤ 64 → {k2 s2 n2 : ℕ} → Found sc.text m k2 s2 n2 → Reading sc at m k2 s2 n2 (count + 1)

@@ -3,7 +3,7 @@ use native.Mathlib.Omega.{arith}
 use Rattle.std.proofs.Common.{subst, ◌∙◌}
 use lib.Seq.{length-take-le, take_at}
 use Rattle.std.proofs.lemmas.Result.{err_from_is_err_and}
-use Rattle.limits.specs.Refusals.{number_of, place_of}
+use Rattle.limits.specs.Refusals.{refusal_number, refusal_place}
 use Rattle.bytecode.specs.Parts.{shape_in}
 use Rattle.before.specs.Inner.Known.{ShapedFor}
 use Rattle.before.proofs.Stored.{known_front}
@@ -15,7 +15,7 @@ returns-in_err-m-clause-result_value c =
     let p = err_from_is_err_and c.from_residual.result c.from_residual.ensures.1 in
     let e = c.in_err-m.field-0.0 in
     let b = subst (ShapedFor c.args.image.now _ _ _ _ _) c.in_err-m.was c.shape_for.ensures in
-    rw (p.1, p.2) (before_for c.args.image.now c.args.state.now c.args.row.now (number_of e) (place_of e) b.0)
+    rw (p.1, p.2) (before_for c.args.image.now c.args.state.now c.args.row.now (refusal_number e) (refusal_place e) b.0)
 
 pub returns-clause-result_value : goal.returns-clause-result_value
 returns-clause-result_value c =

@@ -4,7 +4,7 @@ use lib.Signed.{non_neg}
 use mir.Val.{SFits}
 use mir.Syntax.{w32}
 use Rattle.std.proofs.lemmas.Result.{err_from_is_err_and}
-use Rattle.limits.specs.Refusals.{number_of, place_of, judged_by}
+use Rattle.limits.specs.Refusals.{refusal_number, refusal_place, judged_by}
 use Rattle.arith.proofs.Signs.{at_pos, at_neg}
 use Rattle.semantics.specs.Shape.{cells}
 use Rattle.before.proofs.Tests.{timed_refused, timed_tested}
@@ -14,7 +14,7 @@ pub returns-in_err-tested-clause-result_value : goal.returns-in_err-tested-claus
 returns-in_err-tested-clause-result_value c = λ k x.
     let p = err_from_is_err_and c.from_residual.result c.from_residual.ensures.1 in
     let e = c.in_err-tested.field-0.0 in
-    rw (p.1, p.2) (timed_refused x c.args.state.now c.args.row.now c.requires.fitting_memory.lows c.requires.row_len.1 c.requires.row_len.0 (number_of e) (place_of e) (sym (c.before_ranges.ensures.result_value (cells k) x.ranges) ∙ ap judged_by c.in_err-tested.was))
+    rw (p.1, p.2) (timed_refused x c.args.state.now c.args.row.now c.requires.fitting_memory.lows c.requires.row_len.1 c.requires.row_len.0 (refusal_number e) (refusal_place e) (sym (c.before_ranges.ensures.result_value (cells k) x.ranges) ∙ ap judged_by c.in_err-tested.was))
 
 pub returns-then-time-ge0-clause-result_value : goal.returns-then-time-ge0-clause-result_value
 returns-then-time-ge0-clause-result_value c = λ k x.

@@ -2,7 +2,7 @@
 use Rattle.std.specs.Prelude.{ℕ, ◌^◌, ◌≤◌, ◌<◌, ◌≡◌, List, eqb, ℤ, length, take, Result, Ok, Err}
 use Rattle.limits.specs.Limits.{image_limit, state_limit, time_limit, wrong_length, state_out_of_range, input_out_of_range}
 use Rattle.limits.specs.Answer.{Answer, accepted, refused}
-use Rattle.limits.specs.Refusals.{number_of, place_of}
+use Rattle.limits.specs.Refusals.{refusal_number, refusal_place}
 use Rattle.limits.specs.declared.Refusal.{Refusal}
 use Rattle.arith.specs.Inner.Flags.{flags_of}
 use Rattle.semantics.specs.Program.{Range}
@@ -25,7 +25,7 @@ in_ranges ns s inputs = tested_before (all_within ns s) state_out_of_range (test
 -- the copy holds the inputs, and the rest is handed on
 abbrev pub CopiedBy : ℕ → Timing → State → List ℤ → List ℤ → Result Code Refusal → Type 0
 CopiedBy at k s inputs work (Ok c) = (c.place ≡ at) × (c.timing ≡ k) × (work ≡ with_inputs s inputs)
-CopiedBy at k s inputs work (Err e) = place_of e ≡ 0
+CopiedBy at k s inputs work (Err e) = refusal_place e ≡ 0
 
 -- ---- an image known to be sound
 
@@ -55,7 +55,7 @@ pub record Prepared (k : Shape) (m : Measured) (s : State) (row work : List ℤ)
 
 abbrev pub PreparedBy : Shape → Measured → State → List ℤ → List ℤ → Result Code Refusal → Type 0
 PreparedBy k m s row work (Ok c) = (c.place ≡ m.place) × Prepared k m s row work c.timing
-PreparedBy k m s row work (Err e) = place_of e ≡ 0
+PreparedBy k m s row work (Err e) = refusal_place e ≡ 0
 
 -- ---- a state of the image's length
 
@@ -67,7 +67,7 @@ tested_length (accepted u) k n = tested_before (eqb n (state_length k)) wrong_le
 -- what was measured of an image whose states have so many numbers
 abbrev pub ShapedFor : List ℕ → ℕ → List ℤ → List ℤ → List ℤ → List ℤ → Result Measured Refusal → Type 0
 ShapedFor image n low₀ high₀ low high (Ok m) = Measures image low₀ high₀ low high m × (n ≡ m.size)
-ShapedFor image n low₀ high₀ low high (Err e) = (refused (number_of e) (place_of e) ≡ tested_length (check_of image) (shape_in image) n) × (place_of e ≤ image_limit)
+ShapedFor image n low₀ high₀ low high (Err e) = (refused (refusal_number e) (refusal_place e) ≡ tested_length (check_of image) (shape_in image) n) × (refusal_place e ≤ image_limit)
 
 -- an image known to be sound, what is known of its shape, and a state of its length
 pub record KnownImage (image : List ℕ) (m : Measured) (state low high : List ℤ) : Type 0 where
@@ -103,4 +103,4 @@ pub record Begun (image : List ℕ) (s : State) (row : List ℤ) (low high work 
 -- of a refused one, how large its place is
 abbrev pub BegunBy : List ℕ → State → List ℤ → List ℤ → List ℤ → List ℤ → Result Code Refusal → Type 0
 BegunBy image s row low high work (Ok c) = Begun image s row low high work c.place c.timing
-BegunBy image s row low high work (Err e) = place_of e ≤ image_limit
+BegunBy image s row low high work (Err e) = refusal_place e ≤ image_limit

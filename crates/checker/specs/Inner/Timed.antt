@@ -24,16 +24,16 @@ abbrev pub LastBy : Option Instruction → Last → Type 0
 LastBy before l = (t w : ℕ) → follows before t w ≡ (eqb l.of (w + 1) && leb l.least t)
 
 -- ---- one instruction: the walk behind it, what is known of it, and its place; or nothing where it breaks soundness
-abbrev pub Turned : Type 0
-Turned = O.Option (Walk × Last × ℕ)
+abbrev pub AfterTurn : Type 0
+AfterTurn = O.Option (Walk × Last × ℕ)
 
 -- an instruction of one operand at most keeps soundness, or breaks it
-abbrev pub PlainBy : ℕ → ℕ → ℕ → Walk → Turned → Type 0
+abbrev pub PlainBy : ℕ → ℕ → ℕ → Walk → AfterTurn → Type 0
 PlainBy code n next w (Some (k, l, to)) = (advance_by (instruction_of code n) (known_of w) ≡ some (known_of k)) × Small k × LastBy (instruction_of code n) l × (to ≡ next)
 PlainBy code n next w None = advance_by (instruction_of code n) (known_of w) ≡ none
 
 -- a timer suits and keeps soundness, or does not suit, or breaks it
-abbrev pub TimedBy : ℕ → ℕ → ℕ → ℕ → Walk → Last → List ℤ → List ℤ → List ℤ → Turned → Type 0
+abbrev pub TimedBy : ℕ → ℕ → ℕ → ℕ → Walk → Last → List ℤ → List ℤ → List ℤ → AfterTurn → Type 0
 TimedBy t v n next w last low high start (Some (k, l, to)) =
     ((ns : List Range) (before : Option Instruction) → RangesStand ns low high start → LastBy before last → suits ns before (timer t v n) ≡ true)
     × (advance (timer t v n) (known_of w) ≡ some (known_of k)) × Small k × LastBy (some (timer t v n)) l × (to ≡ next)
@@ -51,7 +51,7 @@ pub record Turns (code : List ℕ) (at : ℕ) (w : Walk) (last : Last) (low high
   pub goes : (ns : List Range) (before : Option Instruction) → RangesStand ns low high start → LastBy before last
       → (base f : ℕ) → check_code ns base code (suc f) at before (known_of w) ≡ check_code ns base code f next (some instruction) (known_of k)
 
-abbrev pub TurnsBy : List ℕ → ℕ → Walk → Last → List ℤ → List ℤ → List ℤ → Turned → Type 0
+abbrev pub TurnsBy : List ℕ → ℕ → Walk → Last → List ℤ → List ℤ → List ℤ → AfterTurn → Type 0
 TurnsBy code at w last low high start (Some (k, l, next)) = Turns code at w last low high start k l next
 TurnsBy code at w last low high start None =
     (ns : List Range) (before : Option Instruction) → RangesStand ns low high start → LastBy before last

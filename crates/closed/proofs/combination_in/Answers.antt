@@ -3,7 +3,7 @@ use native.Mathlib.Omega.{arith}
 use borrow.Author.Tests.{lt-ltb, le-ltb}
 use Rattle.std.proofs.Common.{subst, ◌∙◌}
 use Rattle.std.proofs.lemmas.Result.{err_from_is_err_and}
-use Rattle.limits.specs.Refusals.{number_of, place_of}
+use Rattle.limits.specs.Refusals.{refusal_number, refusal_place}
 use Rattle.bytecode.specs.Parts.{header_of}
 use Rattle.bytecode.proofs.Limits.{cells_untimed}
 use Rattle.shapes.specs.Results.{ShapedAs}
@@ -18,7 +18,7 @@ returns-in_err-m-clause-row_after c =
     let p = err_from_is_err_and c.from_residual.result c.from_residual.ensures.1 in
     let e = c.in_err-m.field-0.0 in
     let r = subst (ShapedAs _ _ _ _ _) c.in_err-m.was c.shape.ensures.so in
-    rw (p.1, p.2) (small_refused c.args.image.now c.args.state.now c.args.row.now _ (number_of e) (place_of e) r.0)
+    rw (p.1, p.2) (small_refused c.args.image.now c.args.state.now c.args.row.now _ (refusal_number e) (refusal_place e) r.0)
 
 pub returns-then-m-clause-row_after : goal.returns-then-m-clause-row_after
 unfolding combination_of

@@ -2,7 +2,7 @@
 use native.Mathlib.Omega.{arith}
 use lib.ListN.{length-set}
 use Rattle.std.proofs.Common.{refl, sym, ap, subst, ◌∙◌, length}
-use Rattle.limits.specs.Refusals.{number_of, place_of, judged_by}
+use Rattle.limits.specs.Refusals.{refusal_number, refusal_place, judged_by}
 use Rattle.paused.specs.Memory.{checkpoint_of}
 use Rattle.before.specs.Inner.Known.{BegunBy}
 use Rattle.lifecycle.proofs.Begins.{waiting_most, image-short, image_few, begin_refused, begin_done}
@@ -35,7 +35,7 @@ pub returns-in-Err-clause-paused_after : goal.returns-in-Err-clause-paused_after
 returns-in-Err-clause-paused_after c =
     let x = c.requires.row_waits in
     rw (c.number.ensures, c.place.ensures, c.put.ensures)
-    (begin_refused c.args.image.now c.args.state.now c.args.paused.now x.sized (checkpoint_of c.args.paused.now) refl x.no_scan c.args.w x.waits x.some (number_of c.in-Err.e) (place_of c.in-Err.e) (sym (ap judged_by c.in-Err.is) ∙ c.before_code-tried.ensures.result_value))
+    (begin_refused c.args.image.now c.args.state.now c.args.paused.now x.sized (checkpoint_of c.args.paused.now) refl x.no_scan c.args.w x.waits x.some (refusal_number c.in-Err.e) (refusal_place c.in-Err.e) (sym (ap judged_by c.in-Err.is) ∙ c.before_code-tried.ensures.result_value))
 
 pub returns-in-Ok-clause-paused_after : goal.returns-in-Ok-clause-paused_after
 returns-in-Ok-clause-paused_after c =

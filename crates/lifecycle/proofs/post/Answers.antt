@@ -1,6 +1,6 @@
 -- The ways are the laws of Posts.
 use Rattle.std.proofs.Common.{◌≡◌, ◌∙◌, subst}
-use Rattle.limits.specs.Refusals.{number_of, place_of}
+use Rattle.limits.specs.Refusals.{refusal_number, refusal_place}
 use Rattle.semantics.specs.Shape.{row_length}
 use Rattle.bytecode.specs.Parts.{shape_in}
 use Rattle.shapes.specs.Results.{ShapedAs}
@@ -20,7 +20,7 @@ post_row-requires c =
 pub returns-in-Err-clause-paused_after : goal.returns-in-Err-clause-paused_after
 returns-in-Err-clause-paused_after c =
     let y = subst (ShapedAs c.args.image.now _ _ _ _) c.in-Err.is c.shape.ensures.so in
-    rw (c.number.ensures, c.place.ensures) (post_refused c.args.image.now c.args.row.now c.args.paused.now c.if-paused-ne-PAUSED_LENGTH.false (number_of c.in-Err.e) (place_of c.in-Err.e) y.0)
+    rw (c.number.ensures, c.place.ensures) (post_refused c.args.image.now c.args.row.now c.args.paused.now c.if-paused-ne-PAUSED_LENGTH.false (refusal_number c.in-Err.e) (refusal_place c.in-Err.e) y.0)
 
 pub returns-in-Ok-clause-paused_after : goal.returns-in-Ok-clause-paused_after
 returns-in-Ok-clause-paused_after c =

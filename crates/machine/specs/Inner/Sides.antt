@@ -3,7 +3,7 @@ use Rattle.semantics.specs.Program as P
 use Rattle.machine.specs.declared.variable.Side.{Side}
 use Rattle.machine.specs.declared.variable.Side.TheVariants.{Changing, Rising, Falling}
 
-abbrev pub side_of : Side → P.Side
-side_of Changing = P.changing
-side_of Rising = P.rising
-side_of Falling = P.falling
+abbrev pub pick_side : Side → P.Side
+pick_side Changing = P.changing
+pick_side Rising = P.rising
+pick_side Falling = P.falling

@@ -5,13 +5,13 @@ use Rattle.std.proofs.lemmas.List.Edits.{sets}
 use Rattle.lexer.specs.declared.Place.{Place}
 use Rattle.lexer.specs.Results.{Step}
 use Rattle.std.specs.Prelude.{Ok, Err}
-use Rattle.limits.specs.Refusals.{number_of, place_of}
+use Rattle.limits.specs.Refusals.{refusal_number, refusal_place}
 use Rattle.grammar.specs.Parsed.{Parsed, accepted, refused, and_then}
 
 -- the place after what was read, with what is told there; or a refusal's number and place
 abbrev pub parsed_of : {A : Type 0} → (Place → A) → Step → Parsed A
 parsed_of told (Ok x) = accepted (told x) x.at
-parsed_of told (Err e) = refused (number_of e) (place_of e)
+parsed_of told (Err e) = refused (refusal_number e) (refusal_place e)
 
 -- what is told: nothing but the place; a count, an id or another place; the value of a bound; and the end of the bytes written besides
 abbrev pub nothing : Place → Unit {0}

@@ -1,6 +1,6 @@
 -- One law for a refused start, one for the rows.
 use Rattle.std.proofs.Common.{subst}
-use Rattle.limits.specs.Refusals.{number_of, place_of}
+use Rattle.limits.specs.Refusals.{refusal_number, refusal_place}
 use Rattle.bytecode.proofs.Walk.{check_sound}
 use Rattle.before.proofs.Stored.{known_front}
 use Rattle.scan.specs.Inner.Parts.{StartedFor}

@@ -2,7 +2,7 @@
 use native.Mathlib.Omega.{arith}
 use Rattle.std.proofs.Common.{◌≡◌, sym, ap, subst, ◌∙◌}
 use Rattle.limits.specs.Answer.{accepted}
-use Rattle.limits.specs.Refusals.{number_of, place_of, judged_by}
+use Rattle.limits.specs.Refusals.{refusal_number, refusal_place, judged_by}
 use Rattle.leb128.proofs.Stores.{rest_of}
 use Rattle.semantics.specs.Shape.{setting_of}
 use Rattle.bytecode.specs.Parts.{shape_in}
@@ -19,12 +19,12 @@ returns-in-Err-clause-state_after c =
     let state = c.args.state.now in
     let row = c.args.row.now in
     rw c.refused.ensures
-    (tests_refuse image state row (number_of c.in-Err.e) (place_of c.in-Err.e) (sym (ap judged_by c.in-Err.is) ∙ c.before_known.ensures.result_value (shape_in image) k.shape ∙ before_rest image state row k.sound k.numbers))
+    (tests_refuse image state row (refusal_number c.in-Err.e) (refusal_place c.in-Err.e) (sym (ap judged_by c.in-Err.is) ∙ c.before_known.ensures.result_value (shape_in image) k.shape ∙ before_rest image state row k.sound k.numbers))
 
 pub returns-in-Err-clause-scanned_within : goal.returns-in-Err-clause-scanned_within
 returns-in-Err-clause-scanned_within c =
     let k = c.requires.known_image in
-    let p : place_of c.in-Err.e ≡ 0 = subst (PreparedBy (shape_in c.args.image.now) c.args.m c.args.state.now c.args.row.now c.before_known.new.work) c.in-Err.is (c.before_known.ensures.prepared_by (shape_in c.args.image.now) k.shape) in
+    let p : refusal_place c.in-Err.e ≡ 0 = subst (PreparedBy (shape_in c.args.image.now) c.args.m c.args.state.now c.args.row.now c.before_known.new.work) c.in-Err.is (c.before_known.ensures.prepared_by (shape_in c.args.image.now) k.shape) in
     rw c.refused.ensures (omega arith, omega arith)
 
 pub returns-in-Ok-clause-state_after : goal.returns-in-Ok-clause-state_after

@@ -2,7 +2,7 @@
 use Rattle.std.specs.Prelude.{◌≡◌, false, List, [], ℕ, ◌≤◌, ℤ, length, Result, Ok, Err}
 use Rattle.limits.specs.Limits.{name_limit, image_limit}
 use Rattle.limits.specs.Answer.{Answer, accepted, refused}
-use Rattle.limits.specs.Refusals.{place_of}
+use Rattle.limits.specs.Refusals.{refusal_place}
 use Rattle.limits.specs.declared.Refusal.{Refusal}
 use Rattle.arith.specs.Inner.Flags.{flags_of}
 use Rattle.semantics.specs.Program.{Range}
@@ -57,4 +57,4 @@ pub record KnownHeader (image : List ℕ) (place inputs names : ℕ) (low high :
 -- the declared starts, and what was measured of the image; or refused, as start does
 abbrev pub StartedFor : List ℕ → State → List ℤ → List ℤ → List ℤ → List ℤ → State → Result Measured Refusal → Type 0
 StartedFor image found low₀ high₀ low high left (Ok m) = Measures image low₀ high₀ low high m × (length found ≡ m.size) × (after_start (Ok tt) left ≡ start_of image found)
-StartedFor image found low₀ high₀ low high left (Err e) = (after_start (Err e) left ≡ start_of image found) × (place_of e ≤ image_limit)
+StartedFor image found low₀ high₀ low high left (Err e) = (after_start (Err e) left ≡ start_of image found) × (refusal_place e ≤ image_limit)

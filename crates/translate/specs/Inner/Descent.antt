@@ -17,7 +17,7 @@ use Rattle.lexer.specs.declared.Place.{Place}
 use Rattle.lexer.specs.Results.{Step}
 use Rattle.std.specs.Prelude.{Result, Ok, Err}
 use Rattle.limits.specs.declared.Refusal.{Refusal}
-use Rattle.limits.specs.Refusals.{number_of, place_of}
+use Rattle.limits.specs.Refusals.{refusal_number, refusal_place}
 use Rattle.phrases.specs.Inner.Steps.{nothing, Writes}
 use Rattle.declarations.specs.Inner.Tables.{TableHolds}
 use Rattle.rules.specs.Inner.Timers.{timers_in}
@@ -51,7 +51,7 @@ pub record HeadingRead (text before mid starts ends watched limits : List ℕ) (
 
 -- all declarations: their answer
 pub record ReadsHeading (text before after starts ends watched limits : List ℕ) (r : Step) : Type 0 where
-  pub refuses : (e : Refusal) → r ≡ Err e → heading_of text ≡ refused (number_of e) (place_of e)
+  pub refuses : (e : Refusal) → r ≡ Err e → heading_of text ≡ refused (refusal_number e) (refusal_place e)
   pub reads : (x : Place) → r ≡ Ok x → HeadingRead text before after starts ends watched limits x.at x.to x.start x.number x.end
 
 -- the rules' scope at their start
@@ -108,7 +108,7 @@ pub record AnalysedText (text : List ℕ) (p : Parsed Program) (starts ends : Li
 
 abbrev pub AnalysedAs : List ℕ → Parsed Program → List ℕ → List ℕ → Result Analysis Refusal → Type 0
 AnalysedAs text p starts ends (Ok x) = AnalysedText text p starts ends x.length x.inputs x.names x.timers x.rules_end x.watches
-AnalysedAs text p starts ends (Err e) = p ≡ refused (number_of e) (place_of e)
+AnalysedAs text p starts ends (Err e) = p ≡ refused (refusal_number e) (refusal_place e)
 
 -- the whole text without a buffer, its limit tested first
 pub record Analyses (text : List ℕ) (p : Parsed Program) (starts ends : List ℕ) (r : Result Analysis Refusal) : Type 0 where

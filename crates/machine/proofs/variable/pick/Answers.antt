@@ -6,7 +6,7 @@ use mir.Facts.{to_z-of_z}
 use Rattle.semantics.specs.Program.{Side}
 use Rattle.semantics.specs.Formula.{at}
 use Rattle.semantics.specs.ReferenceScan.{moves}
-use Rattle.machine.specs.Inner.Sides.{side_of}
+use Rattle.machine.specs.Inner.Sides.{pick_side}
 use Rattle.machine.proofs.Changes.{pick_refused, pick_moved}
 use Rattle.machine.proofs.Stack.{pop_none}
 use Rattle.machine.proofs.variable.pick.Goals as goal
@@ -23,13 +23,13 @@ returns-then-not-moves-clause-cur_after c = λ ns r.
     let a = c.args in
     let h : a.id < length a.low.now = omega (arith, c.requires.one_each.previous) in
     rw c.stays.ensures
-    (pick_refused ns a.low.now a.high.now r a.prev.now a.vals.now a.m.held a.m.picked a.cur.now a.id c.if-n-eq0.false h (side_of a.side)
-    (asked (side_of a.side) (at a.prev.now a.id) (at a.vals.now (a.m.held - 1)) (search rules) (search rules) (sym c.moves.ensures ∙ c.if-not-moves.true)))
+    (pick_refused ns a.low.now a.high.now r a.prev.now a.vals.now a.m.held a.m.picked a.cur.now a.id c.if-n-eq0.false h (pick_side a.side)
+    (asked (pick_side a.side) (at a.prev.now a.id) (at a.vals.now (a.m.held - 1)) (search rules) (search rules) (sym c.moves.ensures ∙ c.if-not-moves.true)))
 
 pub returns-clause-cur_after : goal.returns-clause-cur_after
 returns-clause-cur_after c = λ ns r.
     let a = c.args in
     let h : a.id < length a.low.now = omega (arith, c.requires.one_each.previous) in
     c.assign.ensures.cur_after ns a.prev.now r ∙
-    pick_moved ns a.low.now a.high.now r a.prev.now a.vals.now a.m.held a.m.picked a.cur.now a.id c.if-n-eq0.false h (side_of a.side)
-    (asked (side_of a.side) (at a.prev.now a.id) (at a.vals.now (a.m.held - 1)) (search rules) (search rules) (sym c.moves.ensures ∙ c.if-not-moves.false))
+    pick_moved ns a.low.now a.high.now r a.prev.now a.vals.now a.m.held a.m.picked a.cur.now a.id c.if-n-eq0.false h (pick_side a.side)
+    (asked (pick_side a.side) (at a.prev.now a.id) (at a.vals.now (a.m.held - 1)) (search rules) (search rules) (sym c.moves.ensures ∙ c.if-not-moves.false))
