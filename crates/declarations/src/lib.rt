@@ -91,9 +91,15 @@ fn digits(
 fn bound_at(text: &[u8], at: usize, low: i32, high: i32) -> Step
     ensures { parsed_of value_told result ≡ bound_at (in_range low high) text.now at }
 {
-    let token = lexer::token_at(text, at)?;
+    let read = lexer::token_at(text, at);
+    let Ok(token) = read else {
+        return read;
+    };
     if token.kind == lexer::MINUS {
-        let token2 = lexer::token_at(text, token.end)?;
+        let next = lexer::token_at(text, token.end);
+        let Ok(token2) = next else {
+            return next;
+        };
         return digits(text, token2.kind, token2.start, token2.end, true, low, high);
     }
     digits(text, token.kind, token.start, token.end, false, low, high)
@@ -113,7 +119,10 @@ fn absent(place: usize, next: usize, low: i32, high: i32) -> Step
 fn start_at(text: &[u8], at: usize, low: i32, high: i32) -> Step
     ensures { parsed_of value_told result ≡ start_at text.now low high at }
 {
-    let token = lexer::token_at(text, at)?;
+    let read = lexer::token_at(text, at);
+    let Ok(token) = read else {
+        return read;
+    };
     if token.kind == lexer::INIT {
         let z = bound_at(text, token.end, low, high)?;
         let after = phrases::expect(text, z.at, lexer::SEMICOLON)?;
@@ -153,7 +162,10 @@ fn new_name(text: &[u8], at: usize, starts: &mut [usize], ends: &mut [usize], co
     ensures names { (names : List Name) → TableHolds text.now starts.old ends.old count names → Names text.now names at count ends.old starts.new ends.new result }
     ensures count_lt_name_limit { (x : Place) → result ≡ Ok x → count < name_limit }
 {
-    let token = lexer::token_at(text, at)?;
+    let read = lexer::token_at(text, at);
+    let Ok(token) = read else {
+        return read;
+    };
     if token.kind != lexer::NAME {
         return Err(Refusal::NotAllowed(token.start));
     }
@@ -217,7 +229,10 @@ pub fn declarations(
     let mut t = to;
     // a `loop`: the token behind a declaration says whether another follows
     loop {
-        let token = lexer::token_at(text, a)?;
+        let read = lexer::token_at(text, a);
+        let Ok(token) = read else {
+            return read;
+        };
         if token.kind != word {
             return lexer::reached(a, t, known);
         }

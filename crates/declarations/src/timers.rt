@@ -61,7 +61,10 @@ fn watched_at(
         → parsed_of number_told result ≡ watched_at text.now inputs first names at }
     ensures number_lt_name_limit { (x : Place) → result ≡ Ok x → x.number < name_limit }
 {
-    let token = lexer::token_at(text, at)?;
+    let read = lexer::token_at(text, at);
+    let Ok(token) = read else {
+        return read;
+    };
     if token.kind != lexer::NAME {
         return Err(Refusal::NotAllowed(token.start));
     }
@@ -89,7 +92,10 @@ fn limit_at(text: &[u8], at: usize) -> Step
     ensures result_value { parsed_of number_told result ≡ limit_at text.now at }
     ensures number_le_time_limit { (x : Place) → result ≡ Ok x → x.number ≤ time_limit }
 {
-    let token = lexer::token_at(text, at)?;
+    let read = lexer::token_at(text, at);
+    let Ok(token) = read else {
+        return read;
+    };
     if token.kind != lexer::DIGITS {
         return Err(Refusal::NotAllowed(token.start));
     }
@@ -203,7 +209,10 @@ pub fn timers(
     let mut t = to;
     // a `loop`: the token behind a timer says whether another follows
     loop {
-        let token = lexer::token_at(text, a)?;
+        let read = lexer::token_at(text, a);
+        let Ok(token) = read else {
+            return read;
+        };
         if token.kind != lexer::TIMER {
             return lexer::reached(a, t, known);
         }

@@ -10,18 +10,16 @@ use Rattle.declarations.proofs.declarations.Goals as goal
 pub loop-token-init : goal.loop-token-init
 loop-token-init c = turning _ _ _ _ _ _ _ _ c.requires.table_room
 
-pub returns-in_err-token : goal.returns-in_err-token
-returns-in_err-token c =
-    rw (handed_on c.from_residual.ensures c.in_err-token.was)
-    (record {
-      declares_all = λ names held.
-          stops_fault _ _ _ _ _ _ _ _ _ _ _ _ _ (c.loop-token.invariant.going names held) c.in_err-token.was (is_fault _ _ _ (c.token_at.ensures.value, c.token_at.ensures.placed_in) _ c.in_err-token.was);
-      few_declared = few_refused _ c.in_err-token.was;
-    })
+pub returns-in_default : goal.returns-in_default
+returns-in_default c = record {
+  declares_all = λ names held.
+      stops_fault _ _ _ _ _ _ _ _ _ _ _ _ _ (c.loop-token.invariant.going names held) c.in_default.is (is_fault _ _ _ (c.token_at-read.ensures.value, c.token_at-read.ensures.placed_in) _ c.in_default.is);
+  few_declared = few_refused _ c.in_default.is;
+}
 
 pub returns-then-token-word : goal.returns-then-token-word
 returns-then-token-word c =
-    let t = is_token _ _ _ (c.token_at.ensures.value, c.token_at.ensures.placed_in) _ c.in_ok-token.was in
+    let t = is_token _ _ _ (c.token_at-read.ensures.value, c.token_at-read.ensures.placed_in) _ c.in-Ok.is in
     record {
       declares_all = λ names held.
           ends_all _ _ _ _ _ _ _ _ _ _ _ _ _ (c.loop-token.invariant.going names held) _ _ _ t.0 c.reached.ensures
@@ -37,8 +35,8 @@ declaration-requires c = record {
 
 pub returns-in_err-b : goal.returns-in_err-b
 returns-in_err-b c =
-    let t = is_token _ _ _ (c.token_at.ensures.value, c.token_at.ensures.placed_in) _ c.in_ok-token.was in
-    rw (handed_on c.from_residual-in_err-b.ensures c.in_err-b.was)
+    let t = is_token _ _ _ (c.token_at-read.ensures.value, c.token_at-read.ensures.placed_in) _ c.in-Ok.is in
+    rw (handed_on c.from_residual.ensures c.in_err-b.was)
     (record {
       declares_all = turns-out _ _ _ _ _ _ _ _ _ _ _ _ _ _ c.loop-token.invariant _ _ _ t.0 (same_kinds _ _ c.if-token-word.false)
           _ _ _ c.declaration.ensures.declares_one c.declaration.ensures.count_lt_name_limit c.in_err-b.was;
@@ -53,6 +51,6 @@ loop-token-smaller c = let m = c.declaration.ensures.count_lt_name_limit _ c.in_
 
 pub loop-token-preserved : goal.loop-token-preserved
 loop-token-preserved c =
-    let t = is_token _ _ _ (c.token_at.ensures.value, c.token_at.ensures.placed_in) _ c.in_ok-token.was in
+    let t = is_token _ _ _ (c.token_at-read.ensures.value, c.token_at-read.ensures.placed_in) _ c.in-Ok.is in
     turns_on _ _ _ _ _ _ _ _ _ _ _ _ _ _ c.loop-token.invariant _ _ _ t.0 (same_kinds _ _ c.if-token-word.false)
     _ _ _ c.declaration.ensures.declares_one c.declaration.ensures.count_lt_name_limit c.in_ok-b.was (search rules) (search rules) (search rules)

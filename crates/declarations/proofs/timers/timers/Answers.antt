@@ -12,19 +12,17 @@ use Rattle.declarations.proofs.timers.timers.Goals as goal
 pub loop-token-init : goal.loop-token-init
 loop-token-init c = turning _ _ _ _ _ _ _ _ _ _ c.requires.table_room
 
-pub returns-in_err-token : goal.returns-in_err-token
-returns-in_err-token c =
-    rw (handed_on c.from_residual.ensures c.in_err-token.was)
-    (record {
-      declares_timers = λ x held.
-          stops_fault _ _ _ _ _ _ _ _ _ _ _ _ _ _ _ (c.loop-token.invariant.going x held) c.in_err-token.was (is_fault _ _ _ (c.token_at.ensures.value, c.token_at.ensures.placed_in) _ c.in_err-token.was);
-      few_declared = few_refused _ c.in_err-token.was;
-    })
+pub returns-in_default : goal.returns-in_default
+returns-in_default c = record {
+  declares_timers = λ x held.
+      stops_fault _ _ _ _ _ _ _ _ _ _ _ _ _ _ _ (c.loop-token.invariant.going x held) c.in_default.is (is_fault _ _ _ (c.token_at-read.ensures.value, c.token_at-read.ensures.placed_in) _ c.in_default.is);
+  few_declared = few_refused _ c.in_default.is;
+}
 
 pub returns-then-token-ne-TIMER : goal.returns-then-token-ne-TIMER
 unfolding kind_number
 returns-then-token-ne-TIMER c =
-    let t = is_token _ _ _ (c.token_at.ensures.value, c.token_at.ensures.placed_in) _ c.in_ok-token.was in
+    let t = is_token _ _ _ (c.token_at-read.ensures.value, c.token_at-read.ensures.placed_in) _ c.in-Ok.is in
     record {
       declares_timers = λ x held.
           ends_all _ _ _ _ _ _ _ _ _ _ _ _ _ _ _ (c.loop-token.invariant.going x held) _ _ _ t.0 c.reached.ensures
@@ -42,8 +40,8 @@ timer-requires c = record {
 pub returns-in_err-b : goal.returns-in_err-b
 unfolding kind_number
 returns-in_err-b c =
-    let t = is_token _ _ _ (c.token_at.ensures.value, c.token_at.ensures.placed_in) _ c.in_ok-token.was in
-    rw (handed_on c.from_residual-in_err-b.ensures c.in_err-b.was)
+    let t = is_token _ _ _ (c.token_at-read.ensures.value, c.token_at-read.ensures.placed_in) _ c.in-Ok.is in
+    rw (handed_on c.from_residual.ensures c.in_err-b.was)
     (record {
       declares_timers = turns-out _ _ _ _ _ _ _ _ _ _ _ _ _ _ _ _ _ _ c.loop-token.invariant _ _ _ t.0 (kind_is _ timer_word c.if-token-ne-TIMER.false)
           _ _ _ _ _ c.timer.ensures.timer_declared c.timer.ensures.count_lt_name_limit c.in_err-b.was;
@@ -59,6 +57,6 @@ loop-token-smaller c = let m = c.timer.ensures.count_lt_name_limit _ c.in_ok-b.w
 pub loop-token-preserved : goal.loop-token-preserved
 unfolding kind_number
 loop-token-preserved c =
-    let t = is_token _ _ _ (c.token_at.ensures.value, c.token_at.ensures.placed_in) _ c.in_ok-token.was in
+    let t = is_token _ _ _ (c.token_at-read.ensures.value, c.token_at-read.ensures.placed_in) _ c.in-Ok.is in
     turns_on _ _ _ _ _ _ _ _ _ _ _ _ _ _ _ _ _ _ c.loop-token.invariant _ _ _ t.0 (kind_is _ timer_word c.if-token-ne-TIMER.false)
     _ _ _ _ _ c.timer.ensures.timer_declared c.timer.ensures.count_lt_name_limit c.in_ok-b.was (search rules, search rules, search rules, search rules, search rules)
