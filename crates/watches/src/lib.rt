@@ -77,7 +77,10 @@ pub fn watches(text: &[u8], starts: &[usize], ends: &[usize], names: Names, firs
             return Err(Refusal::TooManyWatches(start));
         }
         let b = watch(text, starts, ends, names, end, &mut nothing, 0)?;
-        let next = lexer::token_at(text, b.at)?;
+        let read = lexer::token_at(text, b.at);
+        let Ok(next) = read else {
+            return read;
+        };
         at = b.at;
         kind = next.kind;
         start = next.start;

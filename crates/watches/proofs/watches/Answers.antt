@@ -22,19 +22,18 @@ returns-in_err-b c =
     rw (handed_on c.from_residual.ensures c.in_err-b.was)
     (reading_refused c.loop-kind.invariant c.loop-kind-test.true c.if-count-eq-WATCH_LIMIT.false c.in_err-b.was (refused_part c.watch.ensures c.in_err-b.was))
 
-pub returns-in_err-next : goal.returns-in_err-next
+pub returns-in_default : goal.returns-in_default
 unfolding kind_number
-returns-in_err-next c =
+returns-in_default c =
     let g = got c.watch.ensures c.in_ok-b.was in
-    let f = is_fault _ _ _ (c.token_at.ensures.value, c.token_at.ensures.placed_in) _ c.in_err-next.was in
-    rw (handed_on c.from_residual-in_err-next.ensures c.in_err-next.was)
-    (reading_fault c.loop-kind.invariant c.loop-kind-test.true c.if-count-eq-WATCH_LIMIT.false g.is c.in_err-next.was f)
+    let f = is_fault _ _ _ (c.token_at-read.ensures.value, c.token_at-read.ensures.placed_in) _ c.in_default.is in
+    reading_fault c.loop-kind.invariant c.loop-kind-test.true c.if-count-eq-WATCH_LIMIT.false g.is c.in_default.is f
 
 pub loop-kind-preserved : goal.loop-kind-preserved
 unfolding kind_number
 loop-kind-preserved c =
     let g = got c.watch.ensures c.in_ok-b.was in
-    let f = found_token _ _ (c.token_at.ensures.value, c.token_at.ensures.placed_in) c.in_ok-next.was in
+    let f = found_token _ _ (c.token_at-read.ensures.value, c.token_at-read.ensures.placed_in) c.in-Ok.is in
     reading_more c.loop-kind.invariant c.loop-kind-test.true c.if-count-eq-WATCH_LIMIT.false g.is (few_names _ c.requires.declared) f
 
 pub returns : goal.returns
