@@ -22,8 +22,14 @@ fn compare_tokens(text: &[u8], from: usize, to: usize, at: usize) -> Step
     let mut b = at;
     // a `while`: both places move on by a token's length, which is known when it is read
     while a < to {
-        let token = lexer::token_at(text, a)?;
-        let token2 = lexer::token_at(text, b)?;
+        let wanted = lexer::token_at(text, a);
+        let Ok(token) = wanted else {
+            return wanted;
+        };
+        let found = lexer::token_at(text, b);
+        let Ok(token2) = found else {
+            return found;
+        };
         if lexer::same_token(
             text,
             token.kind,
@@ -85,7 +91,10 @@ fn compare_sign(text: &[u8], kind: u32, at: usize) -> Step
     requires { kind ≤ last_kind }
     ensures { compared_of result ≡ kind_at text.now (kind_of kind) at }
 {
-    let token = lexer::token_at(text, at)?;
+    let found = lexer::token_at(text, at);
+    let Ok(token) = found else {
+        return found;
+    };
     if token.kind == kind {
         return lexer::reached(token.end, 0, 0);
     }

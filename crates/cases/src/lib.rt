@@ -81,7 +81,10 @@ pub fn cases(
     let mut count = 0;
     // a `loop`: the token behind a case says whether another follows
     loop {
-        let token = lexer::token_at(text, a)?;
+        let read = lexer::token_at(text, a);
+        let Ok(token) = read else {
+            return read;
+        };
         if token.kind != lexer::OPEN_SQUARE {
             return Err(Refusal::NotAllowed(token.start));
         }
@@ -92,7 +95,10 @@ pub fn cases(
         from[count] = a;
         upto[count] = b.number;
         count += 1;
-        let after = lexer::token_at(text, b.at)?;
+        let next = lexer::token_at(text, b.at);
+        let Ok(after) = next else {
+            return next;
+        };
         if after.kind != lexer::BAR {
             return lexer::reached(b.at, b.to, count);
         }
@@ -112,7 +118,10 @@ fn plain_list(text: &[u8], starts: &[usize], ends: &[usize], names: Names, at: u
     let mut left = limits::CASE_LIMIT;
     // a `loop`: the token behind a case says whether another follows
     loop {
-        let bracket = lexer::token_at(text, a)?;
+        let read = lexer::token_at(text, a);
+        let Ok(bracket) = read else {
+            return read;
+        };
         if bracket.kind != lexer::OPEN_SQUARE {
             return Err(Refusal::NotAllowed(bracket.start));
         }

@@ -25,7 +25,10 @@ pub mod scope;
 pub fn ahead(text: &[u8], at: usize, to: usize) -> Step
     ensures { result ≡ step_at (token_at text.now at) at to }
 {
-    let mut token = lexer::token_at(text, at)?;
+    let read = lexer::token_at(text, at);
+    let Ok(mut token) = read else {
+        return read;
+    };
     token.at = at;
     token.to = to;
     Ok(token)
@@ -278,8 +281,14 @@ fn factor(
     requires room { Room text.now at to }
     ensures { Parses text.now bytes_e (factor_in left (scope_of text.now starts.now ends.now names) at) to out.old out.new result }
 {
-    let first = ahead(text, at, to)?;
-    let here = behind_minus(text, first, to)?;
+    let read = ahead(text, at, to);
+    let Ok(first) = read else {
+        return read;
+    };
+    let second = behind_minus(text, first, to);
+    let Ok(here) = second else {
+        return second;
+    };
     let mut behind = primary(text, starts, ends, names, here, left, out, to)?;
     behind.to = put_operator(out, behind.to, minus_code(first.kind));
     Ok(behind)

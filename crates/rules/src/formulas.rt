@@ -156,7 +156,10 @@ fn formula(
     ensures { Writes code_of_rule number_told target (formula_at (scope_of text.now starts.now ends.now names) (part text.now w.start w.end) w.id at) to out.old out.new result }
 {
     let a = phrases::rule_opening(text, at)?;
-    let token = lexer::token_at(text, a.at)?;
+    let read = lexer::token_at(text, a.at);
+    let Ok(token) = read else {
+        return read;
+    };
     if token.kind == lexer::TILDE {
         return change(text, starts, ends, names, w, from, upto, token.end, out, to);
     }
@@ -183,7 +186,10 @@ pub fn formulas(
     requires named { Named (scope_of text.now starts.now ends.now names).names }
     ensures { Writes code_of_rule number_told target (formulasAt (scope_of text.now starts.now ends.now names) (part text.now w.start w.end) w.id at) to out.old out.new result }
 {
-    let token = lexer::token_at(text, at)?;
+    let read = lexer::token_at(text, at);
+    let Ok(token) = read else {
+        return read;
+    };
     if token.kind == lexer::PLUS {
         return pair(text, starts, ends, names, w, from, upto, token.end, out, to);
     }

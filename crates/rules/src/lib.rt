@@ -111,7 +111,10 @@ fn rules_in(
     let mut t = to;
     // a `loop`: the token behind a rule says whether another follows
     loop {
-        let token = lexer::token_at(text, a)?;
+        let read = lexer::token_at(text, a);
+        let Ok(token) = read else {
+            return read;
+        };
         if token.kind != lexer::NAME {
             return Ok(Place {
                 at: a,

@@ -57,14 +57,11 @@ term-loop-behind-smaller t c = turn_less products _ _ c.loop-behind.invariant c.
 pub term-loop-behind-preserved : goal.term-loop-behind-preserved
 term-loop-behind-preserved t c = turn_more products _ _ c.loop-behind.invariant c.factor.ensures c.in_ok-behind.was c.put_operator.ensures c.product_code-code.ensures c.if-code-eq0.false
 
-pub factor-returns-in_err-first : goal.factor-returns-in_err-first
-factor-returns-in_err-first t c =
-    rw (handed_on c.from_residual.ensures c.in_err-first.was) (ahead_fault _ _ _ c.in_err-first.was c.ahead.ensures (factor_fault _ _ _ _ _ _))
+pub factor-returns-in_default : goal.factor-returns-in_default
+factor-returns-in_default t c = ahead_fault _ _ _ c.in_default.is c.ahead-read.ensures (factor_fault _ _ _ _ _ _)
 
-pub factor-returns-in_err-here : goal.factor-returns-in_err-here
-factor-returns-in_err-here t c =
-    rw (handed_on c.from_residual-in_err-here.ensures c.in_err-here.was)
-    (operand-fault _ _ _ _ _ _ _ c.in_ok-first.was c.ahead.ensures c.behind_minus.ensures c.in_err-here.was)
+pub factor-returns-in_default-second : goal.factor-returns-in_default-second
+factor-returns-in_default-second t c = operand-fault _ _ _ _ _ _ _ c.in-Ok.is c.ahead-read.ensures c.behind_minus-second.ensures c.in_default-second.is
 
 pub factor-primary-requires : goal.factor-primary-requires
 factor-primary-requires t c = (
@@ -72,25 +69,25 @@ factor-primary-requires t c = (
   (
     c.requires.declared,
     (
-      operand_room _ _ _ c.in_ok-first.was c.ahead.ensures c.behind_minus.ensures c.in_ok-here.was c.requires.room,
-      operand_stands _ _ _ c.in_ok-first.was c.ahead.ensures c.behind_minus.ensures c.in_ok-here.was,
+      operand_room _ _ _ c.in-Ok.is c.ahead-read.ensures c.behind_minus-second.ensures c.in-Ok-second.is c.requires.room,
+      operand_stands _ _ _ c.in-Ok.is c.ahead-read.ensures c.behind_minus-second.ensures c.in-Ok-second.is,
     ),
   ),
 )
 
 pub factor-returns-in_err-behind : goal.factor-returns-in_err-behind
 factor-returns-in_err-behind t c =
-    rw (handed_on c.from_residual-in_err-behind.ensures c.in_err-behind.was)
-    (factor_refuses _ _ _ _ _ _ _ c.in_ok-first.was c.ahead.ensures c.behind_minus.ensures c.in_ok-here.was c.primary.ensures c.in_err-behind.was)
+    rw (handed_on c.from_residual.ensures c.in_err-behind.was)
+    (factor_refuses _ _ _ _ _ _ _ c.in-Ok.is c.ahead-read.ensures c.behind_minus-second.ensures c.in-Ok-second.is c.primary.ensures c.in_err-behind.was)
 
 pub factor-put_operator-requires : goal.factor-put_operator-requires
 factor-put_operator-requires t c =
     primary_fits _ _ _ _ _ c.in_ok-behind.was c.primary.ensures c.requires.declared
-    (operand_room _ _ _ c.in_ok-first.was c.ahead.ensures c.behind_minus.ensures c.in_ok-here.was c.requires.room)
+    (operand_room _ _ _ c.in-Ok.is c.ahead-read.ensures c.behind_minus-second.ensures c.in-Ok-second.is c.requires.room)
 
 pub factor-returns : goal.factor-returns
 factor-returns t c =
-    factor_accepts _ _ _ _ _ _ _ c.in_ok-first.was c.ahead.ensures c.behind_minus.ensures c.in_ok-here.was c.primary.ensures c.in_ok-behind.was c.minus_code.ensures c.put_operator.ensures
+    factor_accepts _ _ _ _ _ _ _ c.in-Ok.is c.ahead-read.ensures c.behind_minus-second.ensures c.in-Ok-second.is c.primary.ensures c.in_ok-behind.was c.minus_code.ensures c.put_operator.ensures
 
 pub primary-returns-then-here-eq-DIGITS : goal.primary-returns-then-here-eq-DIGITS
 unfolding kind_number

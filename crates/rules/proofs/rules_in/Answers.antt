@@ -13,33 +13,33 @@ use Rattle.rules.proofs.rules_in.Goals as goal
 pub loop-token-init : goal.loop-token-init
 loop-token-init c = ruling_first _ _ _ _ _ _ _ _ _ c.requires.room
 
-pub returns-in_err-token : goal.returns-in_err-token
-returns-in_err-token c =
+pub returns-in_default : goal.returns-in_default
+returns-in_default c =
     let d = declared_as c.requires.declared c.loop-token.known in
-    let f = is_fault _ _ _ (c.token_at.ensures.value, c.token_at.ensures.placed_in) _ c.in_err-token.was in
-    rw (handed_on c.from_residual.ensures c.in_err-token.was) (ruling_fault c.loop-token.invariant d c.in_err-token.was f)
+    let f = is_fault _ _ _ (c.token_at-read.ensures.value, c.token_at-read.ensures.placed_in) _ c.in_default.is in
+    ruling_fault c.loop-token.invariant d c.in_default.is f
 
 pub returns-then-token-ne-NAME : goal.returns-then-token-ne-NAME
 unfolding kind_of
 returns-then-token-ne-NAME c =
     let d = declared_as c.requires.declared c.loop-token.known in
-    let f = found_token _ _ (c.token_at.ensures.value, c.token_at.ensures.placed_in) c.in_ok-token.was in
+    let f = found_token _ _ (c.token_at-read.ensures.value, c.token_at-read.ensures.placed_in) c.in-Ok.is in
     ruling_end c.loop-token.invariant d f (other_kinds _ _ f.lies.known_kind (omega arith) c.if-token-ne-NAME.true)
 
 pub returns-in_err-b : goal.returns-in_err-b
 unfolding kind_of
 returns-in_err-b c =
     let d = declared_as c.requires.declared c.loop-token.known in
-    let f = found_token _ _ (c.token_at.ensures.value, c.token_at.ensures.placed_in) c.in_ok-token.was in
+    let f = found_token _ _ (c.token_at-read.ensures.value, c.token_at-read.ensures.placed_in) c.in-Ok.is in
     let i = same_kinds _ 2 c.if-token-ne-NAME.false in
-    rw (handed_on c.from_residual-in_err-b.ensures c.in_err-b.was)
+    rw (handed_on c.from_residual.ensures c.in_err-b.was)
     (ruling_refused c.loop-token.invariant d f i c.in_err-b.was (refused_part (c.rule.ensures _ (timers_from_lem _ _ _ _)) c.in_err-b.was))
 
 pub ruled-more-requires : goal.ruled-more-requires
 unfolding kind_of
 ruled-more-requires c =
     let d = declared_as c.requires.declared c.loop-token.known in
-    let f = found_token _ _ (c.token_at.ensures.value, c.token_at.ensures.placed_in) c.in_ok-token.was in
+    let f = found_token _ _ (c.token_at-read.ensures.value, c.token_at-read.ensures.placed_in) c.in-Ok.is in
     let i = same_kinds _ 2 c.if-token-ne-NAME.false in
     ruling_declared c.loop-token.invariant d f i (got (c.rule.ensures _ (timers_from_lem _ _ _ _)) c.in_ok-b.was)
 
@@ -47,7 +47,7 @@ pub timers_of-behind-requires-clause-count_le_name_limit : goal.timers_of-behind
 unfolding kind_of
 timers_of-behind-requires-clause-count_le_name_limit c =
     let d = declared_as c.requires.declared c.loop-token.known in
-    let f = found_token _ _ (c.token_at.ensures.value, c.token_at.ensures.placed_in) c.in_ok-token.was in
+    let f = found_token _ _ (c.token_at-read.ensures.value, c.token_at-read.ensures.placed_in) c.in-Ok.is in
     let i = same_kinds _ 2 c.if-token-ne-NAME.false in
     let g = got (c.rule.ensures _ (timers_from_lem _ _ _ _)) c.in_ok-b.was in
     (c.requires.declared.few, ruling_declared c.loop-token.invariant d f i g, ruling_near c.loop-token.invariant d f i g)
@@ -56,7 +56,7 @@ pub loop-token-smaller : goal.loop-token-smaller
 unfolding kind_of
 loop-token-smaller c =
     let d = declared_as c.requires.declared c.loop-token.known in
-    let f = found_token _ _ (c.token_at.ensures.value, c.token_at.ensures.placed_in) c.in_ok-token.was in
+    let f = found_token _ _ (c.token_at-read.ensures.value, c.token_at-read.ensures.placed_in) c.in-Ok.is in
     let i = same_kinds _ 2 c.if-token-ne-NAME.false in
     let g = got (c.rule.ensures _ (timers_from_lem _ _ _ _)) c.in_ok-b.was in
     let few = few_bytes _ _ _ _ _ (ruling_declared c.loop-token.invariant d f i g) c.requires.declared.few in
@@ -66,7 +66,7 @@ pub loop-token-preserved : goal.loop-token-preserved
 unfolding kind_of
 loop-token-preserved c =
     let d = declared_as c.requires.declared c.loop-token.known in
-    let f = found_token _ _ (c.token_at.ensures.value, c.token_at.ensures.placed_in) c.in_ok-token.was in
+    let f = found_token _ _ (c.token_at-read.ensures.value, c.token_at-read.ensures.placed_in) c.in-Ok.is in
     let i = same_kinds _ 2 c.if-token-ne-NAME.false in
     let g = got (c.rule.ensures _ (timers_from_lem _ _ _ _)) c.in_ok-b.was in
     let few = few_bytes _ _ _ _ _ (ruling_declared c.loop-token.invariant d f i g) c.requires.declared.few in

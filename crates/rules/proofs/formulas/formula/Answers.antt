@@ -16,25 +16,25 @@ use Rattle.rules.proofs.formulas.formula.Goals as goal
 pub returns-in_err-a : goal.returns-in_err-a
 returns-in_err-a c = rw (handed_on c.from_residual.ensures c.in_err-a.was) (not_expected c.rule_opening.ensures c.in_err-a.was (formula_unopened _ _ _ _))
 
-pub returns-in_err-token : goal.returns-in_err-token
-returns-in_err-token c =
+pub returns-in_default : goal.returns-in_default
+returns-in_default c =
     let p = found c.rule_opening.ensures c.in_ok-a.was in
-    let f = is_fault _ _ _ (c.token_at.ensures.value, c.token_at.ensures.placed_in) _ c.in_err-token.was in
-    rw (handed_on c.from_residual-in_err-token.ensures c.in_err-token.was) (refuses c.in_err-token.was (formula_fault _ _ _ _ p f))
+    let f = is_fault _ _ _ (c.token_at-read.ensures.value, c.token_at-read.ensures.placed_in) _ c.in_default.is in
+    refuses c.in_default.is (formula_fault _ _ _ _ p f)
 
 pub change-requires-clause-room : goal.change-requires-clause-room
 unfolding is kind_number
 change-requires-clause-room c =
     let p = found c.rule_opening.ensures c.in_ok-a.was in
     let r = room_phrase {u = c.args.to} rule_opening (refl, (refl, (refl, tt))) c.requires.room p (omega arith) in
-    let t = found_token _ _ (c.token_at.ensures.value, c.token_at.ensures.placed_in) c.in_ok-token.was in
+    let t = found_token _ _ (c.token_at-read.ensures.value, c.token_at-read.ensures.placed_in) c.in-Ok.is in
     room_token r t
 
 pub returns-then-token-eq-TILDE : goal.returns-then-token-eq-TILDE
 unfolding kind_of
 returns-then-token-eq-TILDE c =
     let p = found c.rule_opening.ensures c.in_ok-a.was in
-    let t = found_token _ _ (c.token_at.ensures.value, c.token_at.ensures.placed_in) c.in_ok-token.was in
+    let t = found_token _ _ (c.token_at-read.ensures.value, c.token_at-read.ensures.placed_in) c.in-Ok.is in
     reads_as (formula_change _ _ _ _ p t.read (same_kinds _ 21 c.if-token-eq-TILDE.true)) c.change.ensures
 
 pub function-requires-clause-room : goal.function-requires-clause-room
@@ -47,5 +47,5 @@ pub returns : goal.returns
 unfolding kind_of
 returns c =
     let p = found c.rule_opening.ensures c.in_ok-a.was in
-    let t = found_token _ _ (c.token_at.ensures.value, c.token_at.ensures.placed_in) c.in_ok-token.was in
+    let t = found_token _ _ (c.token_at-read.ensures.value, c.token_at-read.ensures.placed_in) c.in-Ok.is in
     reads_as (formula_function _ _ _ _ p t.read (other_kinds _ _ t.lies.known_kind (omega arith) c.if-token-eq-TILDE.false)) c.function.ensures
