@@ -199,7 +199,10 @@ fn inverted(
     requires room { Room text.now at to }
     ensures { Parses text.now bytes_c (inverted_in left (scope_of text.now starts.now ends.now names) at) to out.old out.new result }
 {
-    let here = expressions::ahead(text, at, to)?;
+    let read = expressions::ahead(text, at, to);
+    let Ok(here) = read else {
+        return read;
+    };
     if here.kind == lexer::OPEN_SQUARE {
         let mut behind = square(
             text, starts, ends, names, here.start, here.end, left, out, to,

@@ -80,34 +80,33 @@ atom-returns-then-first-eq-SQUARE_BYTE t c = search (same_part, atom_square)
 pub atom-returns : goal.atom-returns
 atom-returns t c = search (same_part, atom_comparison)
 
-pub inverted-returns-in_err-here : goal.inverted-returns-in_err-here
+pub inverted-returns-in_default : goal.inverted-returns-in_default
 unfolding kind_number
-inverted-returns-in_err-here t c =
-    rw (handed_on c.from_residual.ensures c.in_err-here.was) (ahead_fault _ _ _ c.in_err-here.was c.ahead.ensures (inverted_fault _ _ _ _ _ _))
+inverted-returns-in_default t c = ahead_fault _ _ _ c.in_default.is c.ahead-read.ensures (inverted_fault _ _ _ _ _ _)
 
 pub inverted-square-requires : goal.inverted-square-requires
 unfolding kind_number
-inverted-square-requires t c = (search arith, (c.requires.declared, room_behind _ _ _ c.in_ok-here.was c.ahead.ensures c.requires.room))
+inverted-square-requires t c = (search arith, (c.requires.declared, room_behind _ _ _ c.in-Ok.is c.ahead-read.ensures c.requires.room))
 
 pub inverted-returns-in_err-behind : goal.inverted-returns-in_err-behind
 unfolding kind_number
-inverted-returns-in_err-behind t c = rw (handed_on c.from_residual-in_err-behind.ensures c.in_err-behind.was)
-    (inverted_refuses _ _ _ _ _ _ _ c.in_ok-here.was c.ahead.ensures c.if-here-eq-OPEN_SQUARE.true c.square.ensures c.in_err-behind.was)
+inverted-returns-in_err-behind t c = rw (handed_on c.from_residual.ensures c.in_err-behind.was)
+    (inverted_refuses _ _ _ _ _ _ _ c.in-Ok.is c.ahead-read.ensures c.if-here-eq-OPEN_SQUARE.true c.square.ensures c.in_err-behind.was)
 
 pub inverted-put_byte-requires : goal.inverted-put_byte-requires
 unfolding kind_number
 inverted-put_byte-requires t c =
-    square_fits _ _ _ _ _ _ _ c.in_ok-behind.was c.square.ensures c.in_ok-here.was c.ahead.ensures c.if-here-eq-OPEN_SQUARE.true c.requires.declared c.requires.room
+    square_fits _ _ _ _ _ _ _ c.in_ok-behind.was c.square.ensures c.in-Ok.is c.ahead-read.ensures c.if-here-eq-OPEN_SQUARE.true c.requires.declared c.requires.room
 
 pub inverted-returns-then-here-eq-OPEN_SQUARE : goal.inverted-returns-then-here-eq-OPEN_SQUARE
 unfolding kind_number
 inverted-returns-then-here-eq-OPEN_SQUARE t c =
-    inverted_accepts _ _ _ _ _ _ _ c.in_ok-here.was c.ahead.ensures c.if-here-eq-OPEN_SQUARE.true c.square.ensures c.in_ok-behind.was c.put_byte.ensures
+    inverted_accepts _ _ _ _ _ _ _ c.in-Ok.is c.ahead-read.ensures c.if-here-eq-OPEN_SQUARE.true c.square.ensures c.in_ok-behind.was c.put_byte.ensures
 
 pub inverted-returns : goal.inverted-returns
 unfolding kind_number
 inverted-returns t c =
-    refuses (refused_now (inverted_none _ _ _ _ _ _ _ c.in_ok-here.was c.ahead.ensures c.if-here-eq-OPEN_SQUARE.false))
+    refuses (refused_now (inverted_none _ _ _ _ _ _ _ c.in-Ok.is c.ahead-read.ensures c.if-here-eq-OPEN_SQUARE.false))
 
 pub square-returns-then-left-eq0 : goal.square-returns-then-left-eq0
 unfolding kind_number
