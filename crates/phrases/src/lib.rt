@@ -12,7 +12,7 @@ ghost use Rattle.phrases.specs.Inner.Steps.{parsed_of, nothing};
 use lexer::Step;
 use limits::Refusal;
 
-// A token of a kind. Here and in the next two `let .. else` takes the token out of its answer: the project's form for the tests of a token.
+// A token of a kind. Here, and wherever a token is read, `let .. else` takes it out of its answer: the project's form.
 pub fn expect(text: &[u8], at: usize, kind: u32) -> Step
     requires { kind ≤ last_kind }
     ensures { parsed_of nothing result ≡ expected text.now (sign (kind_of kind)) at }
