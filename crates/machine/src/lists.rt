@@ -13,7 +13,10 @@ pub fn fill(to: &mut [i32], from: &[i32])
     requires { length from.now ≤ length to.old }
     ensures { to.new ≡ from.now ++ drop (length from.now) to.old }
 {
-    to[..from.len()].copy_from_slice(from);
+    // no copy_from_slice: that is a call of memmove, and the archive for C needs memcpy and memset alone
+    for (i, x) in from.iter().enumerate() {
+        to[i] = *x;
+    }
 }
 
 // The place n behind `at`, no further than `most`.
@@ -31,7 +34,7 @@ pub fn store(to: &mut [i32], at: usize, from: &[i32]) -> usize
     ensures to_after { to.new ≡ sets to.old at from.now }
 {
     let end = behind(at, from.len(), to.len());
-    to[at..end].copy_from_slice(&from[..end - at]);
+    fill(&mut to[at..end], &from[..end - at]);
     end
 }
 
@@ -40,7 +43,7 @@ pub fn take_row(copy: &mut [i32], state: &[i32], row: &[i32])
     requires { (length copy.old ≡ length state.now) × (length row.now ≤ length state.now) }
     ensures { copy.new ≡ with_inputs state.now row.now }
 {
-    copy.copy_from_slice(state);
+    fill(copy, state);
     fill(copy, row);
 }
 
