@@ -36,7 +36,7 @@ fn onward(next: usize, s: Stepped) -> Dispatched
     }
 }
 
-// An instruction that is not passed over.
+// An instruction that is not passed over: one match on the code byte, the project's form, since the image's bytes are what is run.
 fn dispatch_one(
     code: &[u8],
     low: &[i32],
