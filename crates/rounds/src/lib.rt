@@ -43,7 +43,8 @@ fn with_steps(steps: usize, response: Response) -> Response
     }
 }
 
-// The scan under way gets its share, then its finish is asked for.
+// The scan under way gets its share, then its finish is asked for. Called in place: of a visit with nothing to do the calls are all that there is.
+#[inline]
 fn give(paused: &mut [i32], image: &[u8], state: &mut [i32], share: usize) -> Response
     ensures state_after { after_finish result paused.new state.new ≡ given image.now share paused.old state.old }
     ensures response_within { ResponseWithin image_limit result }
