@@ -70,12 +70,12 @@ pub fn same_bytes(a: &[u8], b: &[u8]) -> bool
     a == b
 }
 
-// The same byte, or one letter in both cases.
+// The same byte, or one letter in both cases. `==` stands first: it tells most bytes of names that are alike, and folds neither.
 #[tactic(auto, using(std::proofs::lemmas::Bool::Decides::nat_tests), unfolding(crate::specs::Bytes::capital))]
 fn same_letter(x: u8, y: u8) -> bool
     ensures { result ≡ eqb (capital x) (capital y) }
 {
-    x.eq_ignore_ascii_case(&y)
+    x == y || x.eq_ignore_ascii_case(&y)
 }
 
 // From the last byte back: names that are numbered differ there.
