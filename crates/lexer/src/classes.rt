@@ -70,12 +70,14 @@ pub fn same_bytes(a: &[u8], b: &[u8]) -> bool
     a == b
 }
 
-// The same byte, or one letter in both cases. `==` stands first: it tells most bytes of names that are alike, and folds neither.
+// The same byte, or one letter in both cases: a small letter is 32 behind its capital. The sums stand first, since they tell most names apart.
 #[tactic(auto, using(std::proofs::lemmas::Bool::Decides::nat_tests), unfolding(crate::specs::Bytes::capital))]
 fn same_letter(x: u8, y: u8) -> bool
     ensures { result ≡ eqb (capital x) (capital y) }
 {
-    x == y || x.eq_ignore_ascii_case(&y)
+    x == y
+        || u32::from(x) + 32 == u32::from(y) && x.is_ascii_uppercase()
+        || u32::from(y) + 32 == u32::from(x) && y.is_ascii_uppercase()
 }
 
 // From the last byte back: names that are numbered differ there.
