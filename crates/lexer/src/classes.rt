@@ -70,14 +70,17 @@ pub fn same_bytes(a: &[u8], b: &[u8]) -> bool
     a == b
 }
 
-// The same byte, or one letter in both cases: a small letter is 32 behind its capital. The sums stand first, since they tell most names apart.
+// The same byte, or one letter in both cases: a small letter is 32 behind its capital, and 224 is 32 before. One difference tells most names apart.
 #[tactic(auto, using(std::proofs::lemmas::Bool::Decides::nat_tests), unfolding(crate::specs::Bytes::capital))]
 fn same_letter(x: u8, y: u8) -> bool
     ensures { result ≡ eqb (capital x) (capital y) }
 {
-    x == y
-        || u32::from(x) + 32 == u32::from(y) && x.is_ascii_uppercase()
-        || u32::from(y) + 32 == u32::from(x) && y.is_ascii_uppercase()
+    match x.wrapping_sub(y) {
+        0 => true,
+        32 => y.is_ascii_uppercase(),
+        224 => x.is_ascii_uppercase(),
+        _ => false,
+    }
 }
 
 // From the last byte back: names that are numbered differ there.
